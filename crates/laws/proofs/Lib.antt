@@ -1,0 +1,3 @@
+pub mod Computed
+pub mod HandWorked
+pub mod Edges

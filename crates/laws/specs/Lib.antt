@@ -1,0 +1,10 @@
+pub mod Bits
+pub mod Words
+pub mod Model
+pub mod Tables
+pub mod Profiles
+pub mod Opposite
+pub mod Refusals
+pub mod File
+pub mod Answers
+pub mod HandWorked

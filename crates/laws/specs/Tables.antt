@@ -1,0 +1,119 @@
+-- Document 01, "Sets and profiles", what both tables have in common: what a table holds, how it is made up to a room, and how an
+-- entry's word is rebuilt. The values are sets in one table and profiles in the other; nothing here knows which.
+use Prim.Native.Nat.{ℕ, zero, suc, _<_}
+use mathlib.Core.Path.{_≡_}
+use mathlib.Core.Bool.{Bool, true, false, _||_, cond}
+use mathlib.Core.List.{List, [], _∷_, _++_}
+use mathlib.Core.Option.{Option, none, some}
+use lib.ListN.{length, getElem?}
+use lib.Dec.{eqb, ltb}
+use Rattle.laws.specs.Bits.{someOf}
+use Rattle.laws.specs.Words.{Word, letters, before}
+
+-- what is closed: the value of a word, where it has one; the value of a word with one event more, from that of the word; and the
+-- test for equal values
+pub record Closing (Value : Type 0) : Type 0 where
+  pub of : Word → Option Value
+  pub next : Option Value → ℕ → Value
+  pub same : Value → Value → Bool
+
+-- an entry: a value, the number of the entry it came from, and its last event
+pub record Entry (Value : Type 0) : Type 0 where
+  pub value : Value
+  pub from : ℕ
+  pub event : ℕ
+
+-- the number of an entry without a predecessor, and the event of the first set
+abbrev pub noEntry : ℕ
+noEntry = 65535
+
+abbrev pub noEvent : ℕ
+noEvent = 255
+
+-- where an entry with number i comes from, when word gives each entry's least word
+pub data Came {Value : Type 0} (C : Closing Value) (word : ℕ → Word) (i : ℕ) : Entry Value → Type 0 where
+  -- the empty word: no predecessor and no event
+  empty-word : {e : Entry Value} → word i ≡ [] → e .from ≡ noEntry → e .event ≡ noEvent → Came C word i e
+  -- one event, where the empty word has no value: no predecessor, and the event itself
+  one-event : {e : Entry Value} → C .of [] ≡ none → word i ≡ e .event ∷ [] → e .from ≡ noEntry → Came C word i e
+  -- an entry of a smaller number, and then the event
+  one-more : {e : Entry Value} → e .from < i → word i ≡ word (e .from) ++ (e .event ∷ []) → Came C word i e
+
+-- WHAT A TABLE HOLDS, over k events: all values that words have, each once, at the place of its least word
+pub record Holds {Value : Type 0} (C : Closing Value) (k : ℕ) (entries : List (Entry Value)) : Type 0 where
+  -- the least word of each entry, by the entry's number
+  pub word : ℕ → Word
+  -- an entry's word is a word over the k events, and has the entry's value
+  pub word-letters : (i : ℕ) (e : Entry Value) → getElem? entries i ≡ some e → letters k (word i) ≡ true
+  pub word-value : (i : ℕ) (e : Entry Value) → getElem? entries i ≡ some e → C .of (word i) ≡ some (e .value)
+  -- no word before it has that value
+  pub least : (i : ℕ) (e : Entry Value) → getElem? entries i ≡ some e → (w : Word) → letters k w ≡ true → C .of w ≡ some (e .value) → before w (word i) ≡ false
+  -- every value that some word has is there
+  pub all : (w : Word) (x : Value) → letters k w ≡ true → C .of w ≡ some x → (i : ℕ) × (e : Entry Value) × (getElem? entries i ≡ some e) × (e .value ≡ x)
+  -- once
+  pub once : (i j : ℕ) (e f : Entry Value) → getElem? entries i ≡ some e → getElem? entries j ≡ some f → e .value ≡ f .value → i ≡ j
+  -- in the order of their least words
+  pub ordered : (i j : ℕ) → i < j → j < length entries → before (word i) (word j) ≡ true
+  -- each with its predecessor and event
+  pub came : (i : ℕ) (e : Entry Value) → getElem? entries i ≡ some e → Came C word i e
+
+-- a table in the making: the entries so far, and whether a new value came for which there was no room
+pub record Table (Value : Type 0) : Type 0 where
+  pub entries : List (Entry Value)
+  pub cut : Bool
+
+-- the value is among the entries
+unfoldable pub stored : {Value : Type 0} → Closing Value → Value → List (Entry Value) → Bool
+stored C x entries = someOf (λ e. C .same (e .value) x) entries
+
+module _ {Value : Type 0} (C : Closing Value) (room : ℕ) where
+  -- enter an entry: a value that is there already changes nothing; a new one goes to the end, or, with no room left, cuts the
+  -- table, and nothing is entered any more
+  unfoldable pub enter : Entry Value → Table Value → Table Value
+  enter e t =
+      cond (t .cut || stored C (e .value) (t .entries)) t
+      (cond (ltb (length (t .entries)) room)
+      (record { entries = t .entries ++ (e ∷ []); cut = false })
+      (record { entries = t .entries; cut = true }))
+
+  -- from entry number i, whose value is x, by d events one after the other, the first of them a
+  unfoldable pub byEvents : ℕ → Option Value → ℕ → ℕ → Table Value → Table Value
+  byEvents i x zero a t = t
+  byEvents i x (suc d) a t = byEvents i x d (suc a) (enter (record { value = C .next x a; from = i; event = a }) t)
+
+module _ {Value : Type 0} (C : Closing Value) (k room : ℕ) where
+  -- from entry number i on, each entry by all k events, until there is none left; d bounds how many
+  unfoldable pub byEntries : ℕ → ℕ → Table Value → Table Value
+  byEntries zero i t = t
+  byEntries (suc d) i t =
+      elim (getElem? (t .entries) i) [
+        | none ↦ t
+        | some e ↦ byEntries d (suc i) (byEvents C room i (some (e .value)) k 0 t)
+      ]
+
+  -- where a table begins: with the value of the empty word, or, where that has none, with the values of one event
+  unfoldable pub begun : Option Value → Table Value
+  begun none = byEvents C room noEntry none k 0 (record { entries = []; cut = false })
+  begun (some x) = enter C room (record { value = x; from = noEntry; event = noEvent }) (record { entries = []; cut = false })
+
+  -- HOW A TABLE IS MADE, with a room: entries in order, each by the events in order
+  unfoldable pub made : Table Value
+  made = byEntries room 0 (begun (C .of []))
+
+module _ {Value : Type 0} where
+  -- the word of entry number i, through ever smaller numbers; d bounds how many
+  unfoldable pub rebuilt : List (Entry Value) → ℕ → ℕ → Word
+  rebuilt entries zero i = []
+  rebuilt entries (suc d) i =
+      elim (getElem? entries i) [
+        | none ↦ []
+        | some e ↦
+            elim (eqb (e .from) noEntry) [
+              | true ↦ cond (eqb (e .event) noEvent) [] (e .event ∷ [])
+              | false ↦ rebuilt entries d (e .from) ++ (e .event ∷ [])
+            ]
+      ]
+
+  -- the least word of entry number i, rebuilt from predecessors and events
+  unfoldable pub wordOf : List (Entry Value) → ℕ → Word
+  wordOf entries i = rebuilt entries (suc i) i
