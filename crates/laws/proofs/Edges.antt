@@ -1,27 +1,24 @@
--- Document 01's edges, and more of the same kind for every refusal, the file's faults and the order of words, computed of the
--- definitions. Assumes nothing.
-use Prim.Native.Nat.{ℕ, _+_}
+-- Document 01's edges and more of the same kind, computed of the definitions: every refusal but the file's, the rooms, lent memory, and
+-- the order of words. Assumes nothing.
+use Prim.Native.Nat.{ℕ, _^_}
 use mathlib.Core.Path.{_≡_, refl}
 use mathlib.Core.Bool.{true, false}
 use mathlib.Core.List.{List, [], _∷_, _++_, map}
-use mathlib.Core.Option.{none}
-use lib.ListN.{length, take, drop, set}
-use Rattle.laws.specs.Bits.{counted}
+use lib.ListN.{length, replicate}
 use Rattle.laws.specs.Words.{Word, before, power}
 use Rattle.laws.specs.Model.{Model, eight}
-use Rattle.laws.specs.Refusals.{Fault, firstOf, courseChecks}
-use Rattle.laws.specs.File.{fileOf, reading}
-use Rattle.laws.specs.Answers.{over, closed, judged, opposed, words}
+use Rattle.laws.specs.Refusals.{firstOf, courseChecks}
+use Rattle.laws.specs.Answers.{SetSlices, ProfileSlices, OppositeSlices, setRoom, profileRoom, stateRoom, arrowRoom, oppositeLimit, setSlices, profileSlices, oppositeSlices, VerdictAnswer, verdictAnswer, oppositeAnswer, words, verdictIn, oppositeIn, wordMemory}
 use Rattle.laws.specs.HandWorked.{_⇒_, event, mask, A, C, D}
 use Rattle.laws.proofs.Computed.{computed}
 
--- a model with these n, k and masks, and arrows for two events
+-- a model with these n, k and masks, and this slice of arrows
 given : ℕ → ℕ → ℕ → ℕ → List ℕ → Model
 given n k start home arrows = record { n = n; k = k; start = start; home = home; arrows = arrows }
 
 -- the number that the verdict call gives, with the program's room
 numberOf : Model → ℕ
-numberOf m = judged eight m 256 2048 2304 .number
+numberOf m = verdictAnswer eight m 256 2048 2304 .number
 
 -- n 0 and 9, k 0 and 17: 1, also where the slice is too short and bits name missing states
 ranges : map numberOf
@@ -29,6 +26,16 @@ ranges : map numberOf
     ≡ 1 ∷ 1 ∷ 1 ∷ 1 ∷ 1 ∷ []
 unfolding computed numberOf given
 ranges = refl
+
+-- the most states and events are not refused
+largest : numberOf (given 8 16 255 255 (replicate 16 (event (7 ⇒ 7 ∷ [])))) ≡ 0
+unfolding computed numberOf given
+largest = refl
+
+-- a mask and an arrow number beyond the kind's bits name missing states too
+too-wide : map numberOf (given 8 1 256 0 (0 ∷ []) ∷ given 8 1 0 256 (0 ∷ []) ∷ given 8 1 0 0 (2 ^ 64 ∷ []) ∷ []) ≡ 3 ∷ 3 ∷ 3 ∷ []
+unfolding computed numberOf given
+too-wide = refl
 
 -- a slice shorter than k: 2, before 3; one that is just long enough, or longer, is not refused
 short : map numberOf
@@ -53,7 +60,7 @@ beyond = refl
 -- the number, how many sets and profiles stand in the tables, and how many letters in the word memory
 counts : Model → ℕ → ℕ → ℕ → List ℕ
 counts m room-s room-t room-w =
-    let j = judged eight m room-s room-t room-w in
+    let j = verdictAnswer eight m room-s room-t room-w in
     j .number ∷ length (j .sets) ∷ length (j .profiles) ∷ length (words (j .verdict)) ∷ []
 
 -- C needs 2 sets, 3 profiles and 1 byte of word memory
@@ -77,7 +84,7 @@ word-rooms = refl
 -- the number, and how many states and arrows were written
 opposites : Model → ℕ → ℕ → List ℕ
 opposites m room-states room-arrows =
-    let o = opposed eight m 256 2048 room-states room-arrows in
+    let o = oppositeAnswer eight m 256 2048 room-states room-arrows in
     o .number ∷ length (o .flags) ∷ length (o .arrows) ∷ []
 
 -- C's opposite needs room for 6 states and 16 arrows
@@ -96,59 +103,6 @@ courses : courseNumber C [] (1 ∷ []) ∷ courseNumber C [] [] ∷ courseNumber
 unfolding computed courseNumber given
 courses = refl
 
--- the number and offset of a reader with room for two arrow numbers
-faultOf : List ℕ → List ℕ
-faultOf bytes = let r = reading bytes 2 in r .fault .number ∷ r .fault .offset ∷ []
-
--- C's file with byte i changed to x
-changed : ℕ → ℕ → List ℕ
-changed i x = set (fileOf C) i x
-
--- C's file cut at every length: the offset of the field that is cut
-c-cuts : map (λ i. faultOf (take i (fileOf C))) (counted 0 31)
-    ≡ (8 ∷ 0 ∷ []) ∷ (8 ∷ 0 ∷ []) ∷ (8 ∷ 0 ∷ []) ∷ (8 ∷ 0 ∷ [])
-    ∷ (8 ∷ 4 ∷ []) ∷ (8 ∷ 4 ∷ []) ∷ (8 ∷ 4 ∷ []) ∷ (8 ∷ 4 ∷ [])
-    ∷ (8 ∷ 8 ∷ []) ∷ (8 ∷ 8 ∷ []) ∷ (8 ∷ 8 ∷ []) ∷ (8 ∷ 8 ∷ [])
-    ∷ (8 ∷ 12 ∷ []) ∷ (8 ∷ 12 ∷ []) ∷ (8 ∷ 12 ∷ []) ∷ (8 ∷ 12 ∷ [])
-    ∷ (8 ∷ 16 ∷ []) ∷ (8 ∷ 16 ∷ []) ∷ (8 ∷ 16 ∷ []) ∷ (8 ∷ 16 ∷ []) ∷ (8 ∷ 16 ∷ []) ∷ (8 ∷ 16 ∷ [])
-    ∷ (8 ∷ 22 ∷ []) ∷ (8 ∷ 22 ∷ []) ∷ (8 ∷ 22 ∷ []) ∷ (8 ∷ 22 ∷ []) ∷ (8 ∷ 22 ∷ []) ∷ (8 ∷ 22 ∷ [])
-    ∷ (8 ∷ 28 ∷ []) ∷ (8 ∷ 28 ∷ []) ∷ (8 ∷ 28 ∷ []) ∷ []
-unfolding computed faultOf
-c-cuts = refl
-
--- one byte too many; n, k, masks and event fields damaged one at a time: high length byte, tag, event number, a mask beyond n, the end field
-c-damaged : map faultOf
-    ((fileOf C ++ (0 ∷ []))
-    ∷ changed 0 0x11 ∷ changed 1 0 ∷ changed 2 1 ∷ changed 3 0 ∷ changed 3 9
-    ∷ changed 7 0 ∷ changed 7 17 ∷ changed 7 3
-    ∷ changed 8 4 ∷ changed 11 4 ∷ changed 15 0x80
-    ∷ changed 16 4 ∷ changed 17 4 ∷ changed 18 1 ∷ changed 19 1 ∷ changed 21 4
-    ∷ changed 25 0 ∷ changed 27 0xFF
-    ∷ changed 28 0x7E ∷ changed 29 1 ∷ changed 30 1
-    ∷ [])
-    ≡ (8 ∷ 31 ∷ [])
-    ∷ (8 ∷ 0 ∷ []) ∷ (8 ∷ 0 ∷ []) ∷ (8 ∷ 0 ∷ []) ∷ (1 ∷ 0 ∷ []) ∷ (1 ∷ 0 ∷ [])
-    ∷ (1 ∷ 4 ∷ []) ∷ (1 ∷ 4 ∷ []) ∷ (2 ∷ 4 ∷ [])
-    ∷ (8 ∷ 8 ∷ []) ∷ (3 ∷ 8 ∷ []) ∷ (3 ∷ 12 ∷ [])
-    ∷ (8 ∷ 16 ∷ []) ∷ (8 ∷ 16 ∷ []) ∷ (8 ∷ 16 ∷ []) ∷ (8 ∷ 16 ∷ []) ∷ (3 ∷ 16 ∷ [])
-    ∷ (8 ∷ 22 ∷ []) ∷ (3 ∷ 22 ∷ [])
-    ∷ (8 ∷ 28 ∷ []) ∷ (8 ∷ 28 ∷ []) ∷ (8 ∷ 28 ∷ [])
-    ∷ []
-unfolding computed faultOf changed
-c-damaged = refl
-
--- within a field the form comes before the values, and an earlier field before a later one
-c-twice : map faultOf (set (changed 3 9) 0 2 ∷ set (changed 3 9) 7 17 ∷ set (changed 11 4) 8 4 ∷ set (changed 20 4) 19 1 ∷ set (changed 20 4) 26 4 ∷ [])
-    ≡ (8 ∷ 0 ∷ []) ∷ (1 ∷ 0 ∷ []) ∷ (8 ∷ 8 ∷ []) ∷ (8 ∷ 16 ∷ []) ∷ (3 ∷ 16 ∷ []) ∷ []
-unfolding computed faultOf changed
-c-twice = refl
-
--- a reader with less room than k: 2 at the field of k; what a refusal reads besides is 0
-c-refused : reading (fileOf C) 1
-    ≡ record { fault = record { number = 2; offset = 4 }; model = record { n = 0; k = 0; start = 0; home = 0; arrows = [] } }
-unfolding computed
-c-refused = refl
-
 -- the order of words: the shorter first, then the lower at the first difference; no word is before itself
 order : before [] (0 ∷ []) ∷ before (9 ∷ []) (0 ∷ 0 ∷ []) ∷ before (0 ∷ 9 ∷ []) (1 ∷ 0 ∷ []) ∷ before (1 ∷ 0 ∷ []) (0 ∷ 9 ∷ []) ∷ before (2 ∷ 0 ∷ []) (2 ∷ 1 ∷ []) ∷ before (0 ∷ 0 ∷ []) (9 ∷ []) ∷ before (3 ∷ 1 ∷ []) (3 ∷ 1 ∷ []) ∷ []
     ≡ true ∷ true ∷ true ∷ false ∷ true ∷ false ∷ false ∷ []
@@ -160,7 +114,92 @@ powers : power 3 (0 ∷ 1 ∷ []) ++ power 0 (5 ∷ []) ≡ 0 ∷ 1 ∷ 0 ∷ 1 
 unfolding computed
 powers = refl
 
--- a slice keeps what stands past the entries written, and all of it where nothing is written
-kept : over (7 ∷ 8 ∷ []) (1 ∷ 2 ∷ 3 ∷ 4 ∷ []) ++ over [] (5 ∷ []) ≡ 7 ∷ 8 ∷ 3 ∷ 4 ∷ 5 ∷ []
-unfolding computed
-kept = refl
+-- so many entries of lent memory
+lent : ℕ → List ℕ
+lent size = replicate size 9
+
+-- the room is the least of the slices, whichever that is, and the limit where all are longer
+set-rooms : map (setRoom eight)
+    (record { masks = lent 3; from = lent 4; event = lent 5 }
+    ∷ record { masks = lent 5; from = lent 3; event = lent 4 }
+    ∷ record { masks = lent 4; from = lent 5; event = lent 3 }
+    ∷ record { masks = lent 257; from = lent 300; event = lent 400 }
+    ∷ [])
+    ≡ 3 ∷ 3 ∷ 3 ∷ 256 ∷ []
+unfolding computed lent
+set-rooms = refl
+
+profile-rooms : map (profileRoom eight)
+    (record { arrows = lent 3; marks = lent 4; from = lent 5; event = lent 6 }
+    ∷ record { arrows = lent 6; marks = lent 3; from = lent 4; event = lent 5 }
+    ∷ record { arrows = lent 5; marks = lent 6; from = lent 3; event = lent 4 }
+    ∷ record { arrows = lent 4; marks = lent 5; from = lent 6; event = lent 3 }
+    ∷ record { arrows = lent 2049; marks = lent 2050; from = lent 2051; event = lent 2052 }
+    ∷ [])
+    ≡ 3 ∷ 3 ∷ 3 ∷ 3 ∷ 2048 ∷ []
+unfolding computed lent
+profile-rooms = refl
+
+opposite-rooms : map arrowRoom
+    (record { from = lent 3; event = lent 4; to = lent 5; flags = [] }
+    ∷ record { from = lent 5; event = lent 3; to = lent 4; flags = [] }
+    ∷ record { from = lent 4; event = lent 5; to = lent 3; flags = [] }
+    ∷ [])
+    ++ (stateRoom (record { from = []; event = []; to = []; flags = lent 7 }) ∷ oppositeLimit ∷ [])
+    ≡ 3 ∷ 3 ∷ 3 ∷ 7 ∷ 65535 ∷ []
+unfolding computed lent
+opposite-rooms = refl
+
+-- C's verdict in lent memory with four sets, five profiles and three bytes of room: what was written, and then what stood there
+c-sets : SetSlices
+c-sets = record { masks = lent 4; from = lent 4; event = lent 5 }
+
+c-profiles : ProfileSlices
+c-profiles = record { arrows = lent 5; marks = lent 5; from = lent 6; event = lent 5 }
+
+-- the set slices, the profile slices and the word memory after the verdict
+afterVerdict : VerdictAnswer → List ℕ → SetSlices × ProfileSlices × List ℕ
+afterVerdict answer memory = (setSlices (answer .sets) c-sets, profileSlices (answer .profiles) c-profiles, wordMemory answer memory)
+
+c-in-memory : afterVerdict (verdictIn eight C c-sets c-profiles (lent 3)) (lent 3)
+    ≡ (
+      record { masks = 1 ∷ 2 ∷ 9 ∷ 9 ∷ []; from = 65535 ∷ 0 ∷ 9 ∷ 9 ∷ []; event = 255 ∷ 0 ∷ 9 ∷ 9 ∷ 9 ∷ [] },
+      record {
+        arrows = 514 ∷ 257 ∷ 257 ∷ 9 ∷ 9 ∷ [];
+        marks = 514 ∷ 0 ∷ 257 ∷ 9 ∷ 9 ∷ [];
+        from = 65535 ∷ 65535 ∷ 0 ∷ 9 ∷ 9 ∷ 9 ∷ [];
+        event = 0 ∷ 1 ∷ 1 ∷ 9 ∷ 9 ∷ [];
+      },
+      1 ∷ 9 ∷ 9 ∷ [],
+    )
+unfolding computed lent c-sets c-profiles afterVerdict
+c-in-memory = refl
+
+-- D needs two bytes of word memory: with one, the tables are complete and the memory is untouched
+d-words : afterVerdict (verdictIn eight D c-sets c-profiles (lent 1)) (lent 1)
+    ≡ (
+      record { masks = 1 ∷ 0 ∷ 9 ∷ 9 ∷ []; from = 65535 ∷ 0 ∷ 9 ∷ 9 ∷ []; event = 255 ∷ 0 ∷ 9 ∷ 9 ∷ 9 ∷ [] },
+      record {
+        arrows = 0 ∷ 9 ∷ 9 ∷ 9 ∷ 9 ∷ [];
+        marks = 0 ∷ 9 ∷ 9 ∷ 9 ∷ 9 ∷ [];
+        from = 65535 ∷ 9 ∷ 9 ∷ 9 ∷ 9 ∷ 9 ∷ [];
+        event = 0 ∷ 9 ∷ 9 ∷ 9 ∷ 9 ∷ [];
+      },
+      9 ∷ [],
+    )
+unfolding computed lent c-sets c-profiles afterVerdict
+d-words = refl
+
+-- D's opposite in lent memory; with one state of room nothing of it is written
+d-opposite : OppositeSlices → OppositeSlices
+d-opposite l = let o = oppositeIn eight D c-sets c-profiles l in oppositeSlices (o .flags) (o .arrows) l
+
+d-in-memory : d-opposite (record { from = lent 3; event = lent 3; to = lent 2; flags = lent 4 })
+    ≡ record { from = 0 ∷ 1 ∷ 9 ∷ []; event = 0 ∷ 0 ∷ 9 ∷ []; to = 1 ∷ 1 ∷ []; flags = 0 ∷ 1 ∷ 9 ∷ 9 ∷ [] }
+unfolding computed lent c-sets c-profiles d-opposite
+d-in-memory = refl
+
+d-refused : d-opposite (record { from = lent 3; event = lent 3; to = lent 2; flags = lent 1 })
+    ≡ record { from = lent 3; event = lent 3; to = lent 2; flags = lent 1 }
+unfolding computed lent c-sets c-profiles d-opposite
+d-refused = refl

@@ -2,7 +2,7 @@
 -- Assumes nothing.
 use Prim.Native.Nat.{ℕ}
 use mathlib.Core.Path.{_≡_, refl}
-use mathlib.Core.Bool.{true}
+use mathlib.Core.Bool.{Bool, true}
 use mathlib.Core.List.{List, [], _∷_, map}
 use lib.ListN.{length}
 use Rattle.laws.specs.Model.{Model, eight}
@@ -11,7 +11,7 @@ use Rattle.laws.specs.Profiles.{Profile}
 use Rattle.laws.specs.Opposite.{Arrow, arrow, sorted}
 use Rattle.laws.specs.Refusals.{Fault}
 use Rattle.laws.specs.File.{fileOf, reading}
-use Rattle.laws.specs.Answers.{Closed, closed, Opposed, opposed}
+use Rattle.laws.specs.Answers.{closingAnswer, OppositeAnswer, oppositeAnswer}
 use Rattle.laws.specs.HandWorked.{C, D, E, H, Row, rowOf, rows, ownRows}
 use Rattle.laws.proofs.Computed.{computed}
 
@@ -33,27 +33,16 @@ table = refl ▸ refl ▸ refl ▸ refl ▸ refl ▸ refl ▸ refl ▸ refl ▸ 
 -- our own models
 pub own-table : Right ownRows
 unfolding computed
-own-table = refl ▸ refl ▸ refl ▸ tt
+own-table = refl ▸ refl ▸ refl ▸ refl ▸ tt
 
--- the tables of C and E, entry by entry
-abbrev closing : Model → Closed
-closing m = closed eight m 256 2048
-
+-- the tables of E, entry by entry
 set : ℕ → ℕ → ℕ → Entry ℕ
 set P from event = record { value = P; from = from; event = event }
 
 profile : ℕ → ℕ → ℕ → ℕ → Entry Profile
 profile arrows marks from event = record { value = record { arrows = arrows; marks = marks }; from = from; event = event }
 
-c-tables : closing C ≡ record {
-  number = 0;
-  sets = set 1 noEntry noEvent ∷ set 2 0 0 ∷ [];
-  profiles = profile 514 514 noEntry 0 ∷ profile 257 0 noEntry 1 ∷ profile 257 257 0 1 ∷ [];
-}
-unfolding computed set profile
-c-tables = refl
-
-e-tables : closing E ≡ record {
+e-tables : closingAnswer eight E 256 2048 ≡ record {
   number = 0;
   sets = set 1 noEntry noEvent ∷ set 2 0 0 ∷ [];
   profiles = profile 258 2 noEntry 0 ∷ profile 513 513 0 0 ∷ profile 258 258 1 0 ∷ [];
@@ -61,48 +50,53 @@ e-tables : closing E ≡ record {
 unfolding computed set profile
 e-tables = refl
 
--- the opposites of C, D and H
-abbrev opposing : Model → Opposed
-opposing m = opposed eight m 256 2048 65535 65535
+-- the opposites of C, D and H, with the tables they are made from
+opposing : Model → OppositeAnswer
+opposing m = oppositeAnswer eight m 256 2048 65535 65535
 
-c-flags : opposing C .flags ≡ 0 ∷ 0 ∷ 1 ∷ 0 ∷ 0 ∷ 0 ∷ []
-unfolding computed
-c-flags = refl
-
-c-arrows : opposing C .arrows
-    ≡ arrow 0 0 1 ∷ arrow 0 0 3 ∷ arrow 0 1 0 ∷ arrow 0 1 4
+-- C's opposite has 6 states, of which only 2 accepts, and 16 arrows
+c-arrows : List Arrow
+c-arrows =
+    arrow 0 0 1 ∷ arrow 0 0 3 ∷ arrow 0 1 0 ∷ arrow 0 1 4
     ∷ arrow 1 0 1 ∷ arrow 1 1 0
     ∷ arrow 2 0 3 ∷ arrow 2 1 2 ∷ arrow 2 1 4
     ∷ arrow 3 0 3 ∷ arrow 3 1 5
     ∷ arrow 4 0 3 ∷ arrow 4 1 2 ∷ arrow 4 1 4
     ∷ arrow 5 0 3 ∷ arrow 5 1 5 ∷ []
-unfolding computed
-c-arrows = refl
 
-d-flags : opposing D .flags ≡ 0 ∷ 1 ∷ []
-unfolding computed
-d-flags = refl
+c-opposite : opposing C ≡ record {
+  number = 0;
+  sets = set 1 noEntry noEvent ∷ set 2 0 0 ∷ [];
+  profiles = profile 514 514 noEntry 0 ∷ profile 257 0 noEntry 1 ∷ profile 257 257 0 1 ∷ [];
+  flags = 0 ∷ 0 ∷ 1 ∷ 0 ∷ 0 ∷ 0 ∷ [];
+  arrows = c-arrows;
+}
+unfolding computed set profile opposing c-arrows
+c-opposite = refl
 
-d-arrows : opposing D .arrows ≡ arrow 0 0 1 ∷ arrow 1 0 1 ∷ []
-unfolding computed
-d-arrows = refl
-
--- both lists are sorted, with no arrow twice
-c-sorted : sorted (opposing C .arrows) ≡ true
-unfolding computed
+-- its arrows are sorted, with no arrow twice
+c-sorted : sorted c-arrows ≡ true
+unfolding computed c-arrows
 c-sorted = refl
 
-h-sorted : sorted (opposing H .arrows) ≡ true
-unfolding computed
-h-sorted = refl
+-- D's has 2 states, of which 1 accepts, and 2 arrows
+d-opposite : opposing D ≡ record {
+  number = 0;
+  sets = set 1 noEntry noEvent ∷ set 0 0 0 ∷ [];
+  profiles = profile 0 0 noEntry 0 ∷ [];
+  flags = 0 ∷ 1 ∷ [];
+  arrows = arrow 0 0 1 ∷ arrow 1 0 1 ∷ [];
+}
+unfolding computed set profile opposing
+d-opposite = refl
 
-h-states : length (opposing H .flags) ≡ 10
-unfolding computed
-h-states = refl
+-- H's has 10 states and 30 arrows, sorted
+size : OppositeAnswer → ℕ × ℕ × Bool
+size o = (length (o .flags), length (o .arrows), sorted (o .arrows))
 
-h-arrows : length (opposing H .arrows) ≡ 30
-unfolding computed
-h-arrows = refl
+h-opposite : size (opposing H) ≡ (10, 30, true)
+unfolding computed opposing size
+h-opposite = refl
 
 -- C's file, byte for byte, written and read
 c-file : List ℕ

@@ -1,5 +1,5 @@
--- Document 01, "Numbers given back", what each call answers and what every lent slice holds afterwards. The entries of a table that
--- an answer names are those that stand in the lent slices: a count is their number, and past it everything is as it was.
+-- Document 01, "Numbers given back": what each call answers, and what every lent slice holds afterwards. An answer names the entries
+-- that now stand in the lent slices: a count is how many there are, and past it everything is as it was.
 use Prim.Native.Nat.{ℕ, zero, suc, min}
 use mathlib.Core.Path.{_≡_}
 use mathlib.Core.Bool.{Bool, true, false, _||_}
@@ -8,16 +8,12 @@ use mathlib.Core.Option.{Option, none, some}
 use lib.ListN.{length, drop}
 use lib.Dec.{ltb}
 use Rattle.laws.specs.Words.{Word}
-use Rattle.laws.specs.Model.{Kind, Model, machine, Accepted}
+use Rattle.laws.specs.Model.{Machine, Kind, Model, machine, Accepted}
 use Rattle.laws.specs.Tables.{Entry, Table}
-use Rattle.laws.specs.Profiles.{Profile, Verdict, covered, uncovered, verdict, setTable, profileTable}
-use Rattle.laws.specs.Opposite.{Arrow, arrows, flags, stateCount, arrowCount}
+use Rattle.laws.specs.Profiles.{Profile, Verdict, covered, uncovered, values, verdict, setTable, profileTable}
+use Rattle.laws.specs.Opposite.{Arrow, blockProfiles, arrows, flags, stateCount, arrowCount}
 use Rattle.laws.specs.Refusals.{Fault, firstOf, modelChecks, courseChecks}
 use Rattle.laws.specs.File.{Reading}
-
--- what a slice holds after xs was written to its beginning: xs, then what stood there before
-unfoldable pub over : List ℕ → List ℕ → List ℕ
-over xs old = xs ++ drop (length xs) old
 
 -- the slices lent for sets, for profiles, and for the opposite
 pub record SetSlices : Type 0 where
@@ -37,7 +33,7 @@ pub record OppositeSlices : Type 0 where
   pub to : List ℕ
   pub flags : List ℕ
 
--- the room of each: the least of its slices and the limit
+-- THE ROOM of each: the least of its slices and the limit
 unfoldable pub setRoom : Kind → SetSlices → ℕ
 setRoom K l = min (min (length (l .masks)) (min (length (l .from)) (length (l .event)))) (K .sets)
 
@@ -55,11 +51,15 @@ stateRoom l = min (length (l .flags)) oppositeLimit
 unfoldable pub arrowRoom : OppositeSlices → ℕ
 arrowRoom l = min (min (length (l .from)) (min (length (l .event)) (length (l .to)))) oppositeLimit
 
+-- WHAT A SLICE HOLDS after xs was written to its beginning: xs, then what stood there before
+unfoldable pub over : List ℕ → List ℕ → List ℕ
+over xs old = xs ++ drop (length xs) old
+
 -- the slices after entries or arrows were written to their beginnings
 unfoldable pub setSlices : List (Entry ℕ) → SetSlices → SetSlices
 setSlices es l =
     record {
-      masks = over (map (λ e. e .value) es) (l .masks);
+      masks = over (values es) (l .masks);
       from = over (map (λ e. e .from) es) (l .from);
       event = over (map (λ e. e .event) es) (l .event);
     }
@@ -67,8 +67,8 @@ setSlices es l =
 unfoldable pub profileSlices : List (Entry Profile) → ProfileSlices → ProfileSlices
 profileSlices es l =
     record {
-      arrows = over (map (λ e. e .value .arrows) es) (l .arrows);
-      marks = over (map (λ e. e .value .marks) es) (l .marks);
+      arrows = over (map (λ t. t .arrows) (values es)) (l .arrows);
+      marks = over (map (λ t. t .marks) (values es)) (l .marks);
       from = over (map (λ e. e .from) es) (l .from);
       event = over (map (λ e. e .event) es) (l .event);
     }
@@ -83,16 +83,17 @@ oppositeSlices fs es l =
     }
 
 -- CLOSING: the number, and the sets and profiles that now stand in the lent slices
-pub record Closed : Type 0 where
+pub record ClosingAnswer : Type 0 where
   pub number : ℕ
   pub sets : List (Entry ℕ)
   pub profiles : List (Entry Profile)
 
 -- after 1, 2 and 3 nothing; after 4 as many sets as there is room; after 5 all sets and as many profiles as there is room
-unfoldable pub closed : Kind → Model → ℕ → ℕ → Closed
-closed K m room-s room-t =
-    let S : Table ℕ = setTable (K .states) (machine (K .states) m) (m .k) room-s in
-    let T : Table Profile = profileTable (K .states) (machine (K .states) m) (m .k) room-t in
+unfoldable pub closingAnswer : Kind → Model → ℕ → ℕ → ClosingAnswer
+closingAnswer K m set-room profile-room =
+    let M : Machine ℕ = machine (K .states) m in
+    let S : Table ℕ = setTable (K .states) M (m .k) set-room in
+    let T : Table Profile = profileTable (K .states) M (m .k) profile-room in
     elim (firstOf (modelChecks K m) .number) [
       | suc r ↦ record { number = suc r; sets = []; profiles = [] }
       | zero ↦
@@ -107,42 +108,38 @@ closed K m room-s room-t =
     ]
 
 -- THE VERDICT: the number, what stands in the tables, and the verdict, which is given with number 0 only
-pub record Judged : Type 0 where
+pub record VerdictAnswer : Type 0 where
   pub number : ℕ
   pub sets : List (Entry ℕ)
   pub profiles : List (Entry Profile)
   pub verdict : Option Verdict
 
--- u and v of an answer, and what it writes to the word memory: "covered" and refusals have two empty words
-unfoldable pub beginning : Option Verdict → Word
-beginning none = []
-beginning (some covered) = []
-beginning (some (uncovered u v)) = u
+-- u and v of an answer; "covered" and a refusal have two empty words
+unfoldable pub course : Option Verdict → Word × Word
+course none = ([], [])
+course (some covered) = ([], [])
+course (some (uncovered u v)) = (u, v)
 
-unfoldable pub round : Option Verdict → Word
-round none = []
-round (some covered) = []
-round (some (uncovered u v)) = v
-
+-- what goes to the word memory: u and then v
 unfoldable pub words : Option Verdict → Word
-words r = beginning r ++ round r
+words r = course r .0 ++ course r .1
 
 -- after closing without refusal, 6 if u and v together exceed the word memory
-unfoldable pub judged : Kind → Model → ℕ → ℕ → ℕ → Judged
-judged K m room-s room-t room-w =
-    let c : Closed = closed K m room-s room-t in
+unfoldable pub verdictAnswer : Kind → Model → ℕ → ℕ → ℕ → VerdictAnswer
+verdictAnswer K m set-room profile-room word-room =
+    let c : ClosingAnswer = closingAnswer K m set-room profile-room in
     let r : Option Verdict = some (verdict (K .states) (c .sets) (c .profiles)) in
     elim (c .number) [
       | suc n ↦ record { number = suc n; sets = c .sets; profiles = c .profiles; verdict = none }
       | zero ↦
-          elim (ltb room-w (length (words r))) [
+          elim (ltb word-room (length (words r))) [
             | true ↦ record { number = 6; sets = c .sets; profiles = c .profiles; verdict = none }
             | false ↦ record { number = 0; sets = c .sets; profiles = c .profiles; verdict = r }
           ]
     ]
 
 -- THE OPPOSITE: the number, what stands in the tables, and the opposite's flags and arrows, none of them after a refusal
-pub record Opposed : Type 0 where
+pub record OppositeAnswer : Type 0 where
   pub number : ℕ
   pub sets : List (Entry ℕ)
   pub profiles : List (Entry Profile)
@@ -150,28 +147,44 @@ pub record Opposed : Type 0 where
   pub arrows : List Arrow
 
 -- after closing without refusal, 7 if the counted states or arrows exceed their room
-unfoldable pub opposed : Kind → Model → ℕ → ℕ → ℕ → ℕ → Opposed
-opposed K m room-s room-t room-states room-arrows =
-    let c : Closed = closed K m room-s room-t in
+unfoldable pub oppositeAnswer : Kind → Model → ℕ → ℕ → ℕ → ℕ → OppositeAnswer
+oppositeAnswer K m set-room profile-room state-room arrow-room =
+    let c : ClosingAnswer = closingAnswer K m set-room profile-room in
     let W : ℕ = K .states in
-    let Ps : List ℕ = map (λ e. e .value) (c .sets) in
-    let ts : List Profile = map (λ e. e .value) (c .profiles) in
+    let M : Machine ℕ = machine W m in
+    let Ps : List ℕ = values (c .sets) in
+    let ts : List Profile = values (c .profiles) in
+    let bs : List Profile = blockProfiles W Ps ts in
     elim (c .number) [
       | suc n ↦ record { number = suc n; sets = c .sets; profiles = c .profiles; flags = []; arrows = [] }
       | zero ↦
-          elim (ltb room-states (stateCount W (machine W m) (m .k) Ps ts) || ltb room-arrows (arrowCount W (machine W m) (m .k) Ps ts)) [
+          elim (ltb state-room (stateCount Ps ts bs) || ltb arrow-room (arrowCount W M (m .k) Ps ts bs)) [
             | true ↦ record { number = 7; sets = c .sets; profiles = c .profiles; flags = []; arrows = [] }
-            | false ↦ record { number = 0; sets = c .sets; profiles = c .profiles; flags = flags W (machine W m) (m .k) Ps ts; arrows = arrows W (machine W m) (m .k) Ps ts }
+            | false ↦ record { number = 0; sets = c .sets; profiles = c .profiles; flags = flags Ps ts bs; arrows = arrows W M (m .k) Ps ts bs }
           ]
     ]
 
+-- THE THREE CALLS with their lent slices, the word memory as it is lent
+unfoldable pub closingIn : Kind → Model → SetSlices → ProfileSlices → ClosingAnswer
+closingIn K m S T = closingAnswer K m (setRoom K S) (profileRoom K T)
+
+unfoldable pub verdictIn : Kind → Model → SetSlices → ProfileSlices → List ℕ → VerdictAnswer
+verdictIn K m S T memory = verdictAnswer K m (setRoom K S) (profileRoom K T) (length memory)
+
+unfoldable pub oppositeIn : Kind → Model → SetSlices → ProfileSlices → OppositeSlices → OppositeAnswer
+oppositeIn K m S T O = oppositeAnswer K m (setRoom K S) (profileRoom K T) (stateRoom O) (arrowRoom O)
+
+-- the word memory after the verdict
+unfoldable pub wordMemory : VerdictAnswer → List ℕ → List ℕ
+wordMemory answer old = over (words (answer .verdict)) old
+
 -- ONE COURSE: the number and whether the course is accepted, which is said with number 0 only
-pub record OneCourse (K : Kind) (m : Model) (u v : Word) (number : ℕ) (accepted : Bool) : Type 0 where
-  pub refused : number ≡ firstOf (courseChecks K m u v) .number
+pub record CourseAnswer (K : Kind) (m : Model) (u v : Word) (number : ℕ) (accepted : Bool) : Type 0 where
+  pub number-is : number ≡ firstOf (courseChecks K m u v) .number
   pub yes-with-0 : accepted ≡ true → number ≡ 0
   pub yes-only-if : accepted ≡ true → Accepted (machine (K .states) m) u v
   pub yes-if : number ≡ 0 → Accepted (machine (K .states) m) u v → accepted ≡ true
 
--- THE FILE READER: its slice of arrows afterwards; number, offset, n, k and masks are those of the reading
+-- THE FILE READER: its slice of arrows afterwards. Number, offset, n, k and masks are those of the reading
 unfoldable pub arrowSlice : Reading → List ℕ → List ℕ
 arrowSlice r old = over (r .model .arrows) old

@@ -1,5 +1,5 @@
 -- Bits and packed numbers, and the few ways to go through numbers and lists that the other files share.
--- Nothing here is a fact of document 01.
+-- Of document 01 only the packing stands here, bit 8·p+q with W for 8: `cell`, `grid`, `packedRow`, `fromRows`.
 use Prim.Native.Nat.{ℕ, zero, suc, _+_, _*_, _/_, _%_, _^_}
 use mathlib.Core.Bool.{Bool, true, false, _&&_, _||_, cond}
 use mathlib.Core.List.{List, [], _∷_, _++_}
@@ -10,17 +10,26 @@ unfoldable pub bit : ℕ → ℕ → Bool
 bit x i = eqb (x / 2 ^ i % 2) 1
 
 -- the number below 2^N whose bit i is f i, for each i below N
-unfoldable pub number : ℕ → (ℕ → Bool) → ℕ
-number zero f = 0
-number (suc N) f = cond (f 0) 1 0 + 2 * number N (λ i. f (suc i))
+unfoldable pub fromBits : ℕ → (ℕ → Bool) → ℕ
+fromBits zero f = 0
+fromBits (suc N) f = cond (f 0) 1 0 + 2 * fromBits N (λ i. f (suc i))
 
--- the bit for p, q of a number that is packed by rows of W bits: bit W·p+q
+-- a number packed by rows of W bits: its bit for p, q is bit W·p+q
 unfoldable pub cell : ℕ → ℕ → ℕ → ℕ → Bool
 cell W x p q = bit x (W * p + q)
 
 -- the number, W rows of W bits, whose bit for p, q is f p q
 unfoldable pub grid : ℕ → (ℕ → ℕ → Bool) → ℕ
-grid W f = number (W * W) (λ i. f (i / W) (i % W))
+grid W f = fromBits (W * W) (λ i. f (i / W) (i % W))
+
+-- row p of a packed number
+unfoldable pub packedRow : ℕ → ℕ → ℕ → ℕ
+packedRow W x p = x / 2 ^ (W * p) % 2 ^ W
+
+-- the packed number of a list of rows, row 0 first
+unfoldable pub fromRows : ℕ → List ℕ → ℕ
+fromRows W [] = 0
+fromRows W (r ∷ rs) = r + 2 ^ W * fromRows W rs
 
 -- f holds of some number below n
 unfoldable pub someBelow : ℕ → (ℕ → Bool) → Bool
@@ -53,6 +62,10 @@ module _ {A : Type 0} where
   total f [] = 0
   total f (x ∷ xs) = f x + total f xs
 
+  -- of how many elements f holds
+  unfoldable pub count : (A → Bool) → List A → ℕ
+  count f xs = total (λ x. cond (f x) 1 0) xs
+
   -- what f lists for each element and its number, one list behind the other; the first number is i
   unfoldable pub gather : {B : Type 0} → (ℕ → A → List B) → ℕ → List A → List B
   gather f i [] = []
@@ -62,3 +75,7 @@ module _ {A : Type 0} where
   unfoldable pub placeOf : (A → Bool) → List A → ℕ
   placeOf f [] = 0
   placeOf f (x ∷ xs) = cond (f x) 0 (suc (placeOf f xs))
+
+-- what f lists for each number below k, one list behind the other
+unfoldable pub eachBelow : {A : Type 0} → ℕ → (ℕ → List A) → List A
+eachBelow k f = gather (λ _ a. f a) 0 (counted 0 k)

@@ -1,102 +1,102 @@
 -- Document 01, "The model file": the exact bytes of a model, and what a reader finds in any bytes: the model, or the first fault with
 -- its offset. This is the file of the first kind, in which a mask is one byte.
-use Prim.Native.Nat.{ℕ, zero, suc, _+_, _*_, _/_, _%_, _^_}
-use mathlib.Core.Bool.{Bool, true, false, not, _&&_, _||_}
+use Prim.Native.Nat.{ℕ, zero, suc, _+_, _*_, _/_, _%_}
+use mathlib.Core.Bool.{Bool, true, false, not, _&&_}
 use mathlib.Core.List.{List, [], _∷_, _++_, map}
 use lib.ListN.{length, getD, take, drop}
 use lib.Dec.{eqb, ltb, leb}
-use Rattle.laws.specs.Bits.{counted, someOf, gather}
+use Rattle.laws.specs.Bits.{packedRow, fromRows, counted, someOf, eachBelow}
 use Rattle.laws.specs.Model.{eight, Model}
-use Rattle.laws.specs.Refusals.{Check, Fault, firstOf, outside, maskBeyond}
+use Rattle.laws.specs.Refusals.{Check, Fault, firstOf, fault, outside, maskBeyond}
 
--- a field: tag, length with the low byte first, value
+-- the head of a field: tag, and length with the low byte first
+unfoldable pub head : ℕ → ℕ → List ℕ
+head tag size = tag ∷ size % 256 ∷ size / 256 ∷ []
+
 unfoldable pub field : ℕ → List ℕ → List ℕ
-field tag value = tag ∷ length value % 256 ∷ length value / 256 ∷ value
+field tag value = head tag (length value) ++ value
 
 -- the end field, byte for byte
 abbrev pub endField : List ℕ
-endField = 0x7F ∷ 0 ∷ 0 ∷ []
+endField = 0x7F ∷ 0x00 ∷ 0x00 ∷ []
 
--- mask p of an event's number: the states reached from p
-unfoldable pub maskOf : ℕ → ℕ → ℕ
-maskOf x p = x / 256 ^ p % 256
-
--- an event's number from its masks, mask 0 first
-unfoldable pub fromMasks : List ℕ → ℕ
-fromMasks [] = 0
-fromMasks (mask ∷ masks) = mask + 256 * fromMasks masks
-
--- THE EXACT FORM: the bytes of a model's file
+-- THE EXACT FORM: the bytes of a model's file. In the field of an event, mask p gives the states reached from p
 unfoldable pub fileOf : Model → List ℕ
 fileOf m =
-    field 1 (m .n ∷ [])
-    ++ field 2 (m .k ∷ [])
-    ++ field 3 (m .start ∷ [])
-    ++ field 4 (m .home ∷ [])
-    ++ gather (λ _ a. field 5 (a ∷ map (maskOf (getD (m .arrows) a 0)) (counted 0 (m .n)))) 0 (counted 0 (m .k))
+    field 0x01 (m .n ∷ [])
+    ++ field 0x02 (m .k ∷ [])
+    ++ field 0x03 (m .start ∷ [])
+    ++ field 0x04 (m .home ∷ [])
+    ++ eachBelow (m .k) (λ a. field 0x05 (a ∷ map (packedRow (eight .states) (getD (m .arrows) a 0)) (counted 0 (m .n))))
     ++ endField
 
--- what a reader finds: the number and the offset, and with number 0 the model; else n, k, masks are 0 and there are no arrows
-pub record Reading : Type 0 where
-  pub fault : Fault
-  pub model : Model
+-- where the field of event a begins, behind four fields of four bytes; with a = k, where the end field begins
+unfoldable pub eventOffset : ℕ → ℕ → ℕ
+eventOffset n a = 16 + a * (n + 4)
 
 module _ (bytes : List ℕ) where
   -- byte i
   unfoldable pub byte : ℕ → ℕ
   byte i = getD bytes i 0
 
-  -- the bytes hold, from offset o on, exactly these
-  unfoldable pub hold : ℕ → List ℕ → Bool
-  hold o [] = true
-  hold o (x ∷ xs) = ltb o (length bytes) && eqb (byte o) x && hold (suc o) xs
+  -- from offset o on stand exactly these bytes
+  unfoldable pub standAt : ℕ → List ℕ → Bool
+  standAt o [] = true
+  standAt o (x ∷ xs) = ltb o (length bytes) && eqb (byte o) x && standAt (suc o) xs
 
   -- at offset o stands a field with this tag and length, not cut short
   unfoldable pub formed : ℕ → ℕ → ℕ → Bool
-  formed o tag size = hold o (tag ∷ size % 256 ∷ size / 256 ∷ []) && leb (o + 3 + size) (length bytes)
+  formed o tag size = standAt o (head tag size) && leb (o + 3 + size) (length bytes)
 
-  -- the fields of one byte stand at 0, 4, 8 and 12, each value behind three bytes
-  unfoldable pub headOf : List ℕ → Model
-  headOf arrows = record { n = byte 3; k = byte 7; start = byte 11; home = byte 15; arrows = arrows }
+  -- the first byte of the value of the field at offset o
+  unfoldable pub value : ℕ → ℕ
+  value o = byte (o + 3)
 
-  module _ (n k : ℕ) where
-    -- where the field of event a begins; with a = k, where the end field begins
-    unfoldable pub eventOffset : ℕ → ℕ
-    eventOffset a = 16 + a * (n + 4)
+  -- the n masks of event a
+  unfoldable pub masks : ℕ → ℕ → List ℕ
+  masks n a = take n (drop (eventOffset n a + 4) bytes)
 
-    -- the masks of event a
-    unfoldable pub masks : ℕ → List ℕ
-    masks a = take n (drop (eventOffset a + 4) bytes)
+  -- the field of event a: tag, length, cut and event number come before its masks
+  unfoldable pub eventChecks : ℕ → ℕ → List Check
+  eventChecks n a =
+      fault 8 (eventOffset n a) (not (formed (eventOffset n a) 0x05 (n + 1) && eqb (value (eventOffset n a)) a))
+      ∷ fault 3 (eventOffset n a) (someOf (maskBeyond n) (masks n a))
+      ∷ []
 
-    -- the field of event a: tag, length, cut and event number come before its masks
-    unfoldable pub eventChecks : ℕ → List Check
-    eventChecks a =
-        record { number = 8; offset = eventOffset a; applies = not (formed (eventOffset a) 5 (n + 1) && eqb (byte (eventOffset a + 3)) a) }
-        ∷ record { number = 3; offset = eventOffset a; applies = someOf (maskBeyond (eight .states) n) (masks a) }
-        ∷ []
+  -- all fields in order, when the file says n and k and there is room for so many arrow numbers: the first fault decides
+  unfoldable pub fileChecks : ℕ → ℕ → ℕ → List Check
+  fileChecks n k room =
+      fault 8 0 (not (formed 0 0x01 1))
+      ∷ fault 1 0 (outside (eight .states) n)
+      ∷ fault 8 4 (not (formed 4 0x02 1))
+      ∷ fault 1 4 (outside (eight .events) k)
+      ∷ fault 2 4 (ltb room k)
+      ∷ fault 8 8 (not (formed 8 0x03 1))
+      ∷ fault 3 8 (maskBeyond n (value 8))
+      ∷ fault 8 12 (not (formed 12 0x04 1))
+      ∷ fault 3 12 (maskBeyond n (value 12))
+      ∷ eachBelow k (eventChecks n)
+      ++ (fault 8 (eventOffset n k) (not (standAt (eventOffset n k) endField))
+      ∷ fault 8 (eventOffset n k + 3) (ltb (eventOffset n k + 3) (length bytes))
+      ∷ [])
 
-    -- all fields in order, with room for so many arrow numbers: the first fault decides
-    unfoldable pub fileChecks : ℕ → List Check
-    fileChecks room =
-        record { number = 8; offset = 0; applies = not (formed 0 1 1) }
-        ∷ record { number = 1; offset = 0; applies = outside (eight .states) n }
-        ∷ record { number = 8; offset = 4; applies = not (formed 4 2 1) }
-        ∷ record { number = 1; offset = 4; applies = outside (eight .events) k }
-        ∷ record { number = 2; offset = 4; applies = ltb room k }
-        ∷ record { number = 8; offset = 8; applies = not (formed 8 3 1) }
-        ∷ record { number = 3; offset = 8; applies = maskBeyond (eight .states) n (byte 11) }
-        ∷ record { number = 8; offset = 12; applies = not (formed 12 4 1) }
-        ∷ record { number = 3; offset = 12; applies = maskBeyond (eight .states) n (byte 15) }
-        ∷ gather (λ _ a. eventChecks a) 0 (counted 0 k)
-        ++ (record { number = 8; offset = eventOffset k; applies = not (hold (eventOffset k) endField) }
-        ∷ record { number = 8; offset = eventOffset k + 3; applies = ltb (eventOffset k + 3) (length bytes) }
-        ∷ [])
+  -- the model in a file without a fault
+  unfoldable pub modelRead : ℕ → ℕ → Model
+  modelRead n k =
+      record { n = n; k = k; start = value 8; home = value 12; arrows = map (λ a. fromRows (eight .states) (masks n a)) (counted 0 k) }
+
+-- what a reader finds: the number and the offset; with number 0 the model, else n, k and masks 0 and no arrows
+pub record Reading : Type 0 where
+  pub fault : Fault
+  pub model : Model
 
 -- WHAT A READER FINDS in any bytes, with room for so many arrow numbers
 unfoldable pub reading : List ℕ → ℕ → Reading
 reading bytes room =
-    let fault = firstOf (fileChecks bytes (byte bytes 3) (byte bytes 7) room) in
-    elim (fault .number) [
-      | zero ↦ record { fault = fault; model = headOf bytes (map (λ a. fromMasks (masks bytes (byte bytes 3) (byte bytes 7) a)) (counted 0 (byte bytes 7))) }
-      | suc _ ↦ record { fault = fault; model = record { n = 0; k = 0; start = 0; home = 0; arrows = [] } }
+    let n : ℕ = value bytes 0 in
+    let k : ℕ = value bytes 4 in
+    let f : Fault = firstOf (fileChecks bytes n k room) in
+    elim (f .number) [
+      | zero ↦ record { fault = f; model = modelRead bytes n k }
+      | suc _ ↦ record { fault = f; model = record { n = 0; k = 0; start = 0; home = 0; arrows = [] } }
     ]

@@ -7,7 +7,7 @@ use lib.ListN.{length}
 use Rattle.laws.specs.Bits.{total}
 use Rattle.laws.specs.Model.{Model, eight}
 use Rattle.laws.specs.Profiles.{Verdict, covered, uncovered}
-use Rattle.laws.specs.Answers.{Judged, judged}
+use Rattle.laws.specs.Answers.{VerdictAnswer, verdictAnswer}
 
 -- one arrow of an event, p to q, and an event's number from its arrows
 infix 68 _⇒_
@@ -57,6 +57,10 @@ Both = record { n = 2; k = 1; start = mask (0 ∷ 1 ∷ []); home = mask (1 ∷ 
 unfoldable pub Homeless : Model
 Homeless = record { n = 2; k = 2; start = mask (0 ∷ []); home = mask []; arrows = event (0 ⇒ 1 ∷ 1 ⇒ 1 ∷ []) ∷ event (0 ⇒ 0 ∷ 1 ⇒ 0 ∷ []) ∷ [] }
 
+-- a line that goes there on one event and back on the other, no home: no profile of one event rejects with {0}, that of 0 1 does
+unfoldable pub Shuttle : Model
+Shuttle = record { n = 2; k = 2; start = mask (0 ∷ []); home = mask []; arrows = event (0 ⇒ 1 ∷ []) ∷ event (1 ⇒ 0 ∷ []) ∷ [] }
+
 -- a row: a model, its number of sets and of profiles, and the verdict
 pub record Row : Type 0 where
   pub model : Model
@@ -67,8 +71,8 @@ pub record Row : Type 0 where
 -- the row of a model by the definitions, with the program's room
 unfoldable pub rowOf : Model → Row
 rowOf m =
-    let j : Judged = judged eight m 256 2048 2304 in
-    record { model = m; sets = length (j .sets); profiles = length (j .profiles); verdict = j .verdict }
+    let answer : VerdictAnswer = verdictAnswer eight m 256 2048 2304 in
+    record { model = m; sets = length (answer .sets); profiles = length (answer .profiles); verdict = answer .verdict }
 
 unfoldable pub row : Model → ℕ → ℕ → Verdict → Row
 row m s t v = record { model = m; sets = s; profiles = t; verdict = some v }
@@ -88,4 +92,9 @@ rows =
 
 -- our own models
 unfoldable pub ownRows : List Row
-ownRows = row Swap 1 3 covered ∷ row Both 1 2 covered ∷ row Homeless 2 2 (uncovered [] (1 ∷ [])) ∷ []
+ownRows =
+    row Swap 1 3 covered
+    ∷ row Both 1 2 covered
+    ∷ row Homeless 2 2 (uncovered [] (1 ∷ []))
+    ∷ row Shuttle 3 5 (uncovered [] (0 ∷ 1 ∷ []))
+    ∷ []

@@ -1,15 +1,15 @@
 -- Document 01, "The model": machines, their paths and the courses they accept; the model, and the machine that it is.
 -- A machine is over any type of states, so that one definition of "accepted" serves the model and its opposite.
-use Prim.Native.Nat.{ℕ, _+_, _*_, _≤_}
+use Prim.Native.Nat.{ℕ, _≤_}
 use mathlib.Core.Path.{_≡_}
 use mathlib.Core.Bool.{Bool, true, false, _&&_, _||_}
 use mathlib.Core.List.{List, [], _∷_, _++_}
 use lib.ListN.{getD}
 use lib.Dec.{ltb}
 use Rattle.laws.specs.Bits.{bit, cell}
-use Rattle.laws.specs.Words.{Word, power, letters, empty}
+use Rattle.laws.specs.Words.{Word, power, lettersBelow, empty}
 
--- which states are start states, which are home, and whether an event leads from one state to another
+-- which states are start states; which are home or, in the opposite, accepting; and whether an event leads from one state to another
 pub record Machine (S : Type 0) : Type 0 where
   pub start : S → Bool
   pub home : S → Bool
@@ -26,27 +26,27 @@ module _ {S : Type 0} (M : Machine S) where
   homed (stop {p = p}) = M .home p
   homed (step {p = p} h rest) = M .home p || homed rest
 
-  -- the course (u, v) is accepted: some path reads u and then v i times, from a start state to r, and
-  -- some path reads v j times, j at least 1, from r back to r, and has a home state among its states
+  -- the course (u, v) is accepted: some path reads u and then v i times, from a start state to r, and some path reads v j times, j at
+  -- least 1, from r back to r, and has a home state among its states. It is said of any two words; a course is `Course`
   pub record Accepted (u v : Word) : Type 0 where
     pub i : ℕ
     pub j : ℕ
     pub r : S
-    pub first : S
-    pub starts : M .start first ≡ true
-    pub reach : Path first (u ++ power i v) r
-    pub least : 1 ≤ j
+    pub from : S
+    pub from-start : M .start from ≡ true
+    pub reach : Path from (u ++ power i v) r
+    pub j-from-1 : 1 ≤ j
     pub round : Path r (power j v) r
-    pub home : homed round ≡ true
+    pub round-homed : homed round ≡ true
 
 -- u and v are a course over k events: letters below k, v not empty
 pub record Course (k : ℕ) (u v : Word) : Type 0 where
-  pub u-letters : letters k u ≡ true
-  pub v-letters : letters k v ≡ true
+  pub u-letters : lettersBelow k u ≡ true
+  pub v-letters : lettersBelow k v ≡ true
   pub v-some : empty v ≡ false
 
--- the limits that belong to one kind of model: how many states, events, sets and profiles. The arrows of an event are one number,
--- in rows of as many bits as the kind has states
+-- the limits that belong to one kind of model: at most how many states, events, sets and profiles. The arrows of an event are one
+-- number, in rows of as many bits as the kind has states
 pub record Kind : Type 0 where
   pub states : ℕ
   pub events : ℕ

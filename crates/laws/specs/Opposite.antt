@@ -1,11 +1,12 @@
 -- Document 01, "The opposite machine": its states, accepting flags and sorted arrows, document 01's counts of both, and the machine
--- that a list of arrows and flags is. W, M and k are the model's; sets and profiles are the values of its two complete tables.
+-- that written flags and arrows are. W, M and k are the model's; Ps and ts are the values of its two complete tables, the sets and the
+-- profiles; bs are the profiles that have a block.
 use Prim.Native.Nat.{ℕ, zero, suc, _+_, _*_}
 use mathlib.Core.Bool.{Bool, true, false, not, _&&_, _||_, cond}
 use mathlib.Core.List.{List, [], _∷_, _++_, map}
 use lib.ListN.{length, getD, replicate}
 use lib.Dec.{eqb, ltb}
-use Rattle.laws.specs.Bits.{counted, someOf, everyOf, keep, total, gather, placeOf}
+use Rattle.laws.specs.Bits.{counted, someOf, everyOf, keep, total, count, gather, placeOf, eachBelow}
 use Rattle.laws.specs.Model.{Machine}
 use Rattle.laws.specs.Profiles.{Profile, sameProfile, join, isRejecting, after, eventProfile}
 
@@ -42,81 +43,76 @@ written flags arrows =
     }
 
 -- the pair is rejecting and its set is not empty
-unfoldable pub isEntering : ℕ → ℕ → Profile → Bool
-isEntering W P t = not (eqb P 0) && isRejecting W P t
+unfoldable pub rejectsNonEmpty : ℕ → ℕ → Profile → Bool
+rejectsNonEmpty W P t = not (eqb P 0) && isRejecting W P t
 
--- the profiles that occur in such a pair, in order: each has a block
-unfoldable pub blocks : ℕ → List ℕ → List Profile → List Profile
-blocks W sets profiles = keep (λ t. someOf (λ P. isEntering W P t) sets) profiles
-
-module _ (sets : List ℕ) (profiles : List Profile) where
+module _ (Ps : List ℕ) (ts : List Profile) where
   -- the number of the gate of block b: the sets come first, and a block is a gate and one state for each profile
   unfoldable pub gate : ℕ → ℕ
-  gate b = length sets + b * (length profiles + 1)
+  gate b = length Ps + b * (length ts + 1)
 
-  -- the number of the state of the profile x in block b
-  unfoldable pub place : ℕ → Profile → ℕ
-  place b x = gate b + 1 + placeOf (sameProfile x) profiles
+  -- the number of the state of profile number i in block b
+  unfoldable pub inBlock : ℕ → ℕ → ℕ
+  inBlock b i = gate b + 1 + i
 
-  -- in the block b of t, from state p onto the profile y on event a: to the gate too if y is t, and to the state of y
-  unfoldable pub onto : ℕ → Profile → ℕ → Profile → ℕ → List Arrow
-  onto b t p y a = cond (sameProfile y t) (arrow p a (gate b) ∷ []) [] ++ (arrow p a (place b y) ∷ [])
+  -- in the block b of t, from state p on event a onto the profile y: to the gate too if y is t, and to the state of y
+  unfoldable pub onto : ℕ → Profile → ℕ → ℕ → Profile → List Arrow
+  onto b t p a y = cond (sameProfile y t) (arrow p a (gate b) ∷ []) [] ++ (arrow p a (inBlock b (placeOf (sameProfile y) ts)) ∷ [])
 
-module _ (W : ℕ) (M : Machine ℕ) (k : ℕ) (sets : List ℕ) (profiles : List Profile) where
-  -- from set number i, P, on event a: to the set of P after a, and for each entering pair to the state of a's profile in the block
-  unfoldable pub fromSet : ℕ → ℕ → ℕ → List Arrow
-  fromSet i P a =
-      arrow i a (placeOf (eqb (after W M P a)) sets)
-      ∷ gather (λ b t. cond (isEntering W P t) (arrow i a (place sets profiles b (eventProfile W M a)) ∷ []) []) 0 (blocks W sets profiles)
+-- the profiles that occur in a rejecting pair whose set is not empty, in order: each has a block
+unfoldable pub blockProfiles : ℕ → List ℕ → List Profile → List Profile
+blockProfiles W Ps ts = keep (λ t. someOf (λ P. rejectsNonEmpty W P t) Ps) ts
 
-  -- from the gate of block b, t's, on event a: onto a's profile
-  unfoldable pub fromGate : ℕ → Profile → ℕ → List Arrow
-  fromGate b t a = onto sets profiles b t (gate sets profiles b) (eventProfile W M a) a
+-- how many rejecting pairs have a set that is not empty
+unfoldable pub pairCount : ℕ → List ℕ → List Profile → ℕ
+pairCount W Ps ts = total (λ P. count (rejectsNonEmpty W P) ts) Ps
 
-  -- from the state of profile number i, x, in block b, t's, on event a: onto x then a
-  unfoldable pub fromState : ℕ → Profile → ℕ → Profile → ℕ → List Arrow
-  fromState b t i x a = onto sets profiles b t (gate sets profiles b + 1 + i) (join W x (eventProfile W M a)) a
-
-  -- what f lists for each event
-  unfoldable pub eachEvent : (ℕ → List Arrow) → List Arrow
-  eachEvent f = gather (λ _ a. f a) 0 (counted 0 k)
-
-  -- the block b of t: its gate, and then its states
-  unfoldable pub fromBlock : ℕ → Profile → List Arrow
-  fromBlock b t = eachEvent (fromGate b t) ++ gather (λ i x. eachEvent (fromState b t i x)) 0 profiles
-
-  -- THE ARROWS: the sets', and then the blocks'
-  unfoldable pub arrows : List Arrow
-  arrows = gather (λ i P. eachEvent (fromSet i P)) 0 sets ++ gather fromBlock 0 (blocks W sets profiles)
-
+module _ (Ps : List ℕ) (ts bs : List Profile) where
   -- THE FLAGS: the empty set accepts, and in each block its gate
   unfoldable pub flags : List ℕ
-  flags = map (λ P. cond (eqb P 0) 1 0) sets ++ gather (λ _ t. 1 ∷ replicate (length profiles) 0) 0 (blocks W sets profiles)
+  flags = map (λ P. cond (eqb P 0) 1 0) Ps ++ gather (λ _ t. 1 ∷ replicate (length ts) 0) 0 bs
 
   -- THE COUNT OF STATES: s + h·(m+1)
   unfoldable pub stateCount : ℕ
-  stateCount = length sets + length (blocks W sets profiles) * (length profiles + 1)
+  stateCount = length Ps + length bs * (length ts + 1)
 
-  -- how many rejecting pairs have a set that is not empty
-  unfoldable pub pairCount : ℕ
-  pairCount = total (λ P. total (λ t. cond (isEntering W P t) 1 0) profiles) sets
+module _ (W : ℕ) (M : Machine ℕ) (Ps : List ℕ) (ts : List Profile) where
+  -- from set number i, P, on event a: to the set of P after a, and for each rejecting pair, P not empty, to the state of a's profile
+  -- in the pair's block
+  unfoldable pub fromSet : List Profile → ℕ → ℕ → ℕ → List Arrow
+  fromSet bs i P a =
+      arrow i a (placeOf (eqb (after W M P a)) Ps)
+      ∷ gather (λ b t. cond (rejectsNonEmpty W P t) (arrow i a (inBlock Ps ts b (placeOf (sameProfile (eventProfile W M a)) ts)) ∷ []) []) 0 bs
 
-  -- on how many events the profile that f gives for the event is t
-  unfoldable pub ontoCount : Profile → (ℕ → Profile) → ℕ
-  ontoCount t f = total (λ a. cond (sameProfile (f a) t) 1 0) (counted 0 k)
+  -- from the gate of block b, t's, on event a: onto a's profile
+  unfoldable pub fromGate : ℕ → Profile → ℕ → List Arrow
+  fromGate b t a = onto Ps ts b t (gate Ps ts b) a (eventProfile W M a)
 
-  -- the second arrows of the block of t: from its gate, and from its states
-  unfoldable pub secondCount : Profile → ℕ
-  secondCount t = ontoCount t (eventProfile W M) + total (λ x. ontoCount t (λ a. join W x (eventProfile W M a))) profiles
+  -- from the state of profile number i, x, in block b, t's, on event a: onto x then a
+  unfoldable pub fromState : ℕ → Profile → ℕ → Profile → ℕ → List Arrow
+  fromState b t i x a = onto Ps ts b t (inBlock Ps ts b i) a (join W x (eventProfile W M a))
 
-  -- THE COUNT OF ARROWS: s·k, k for each such pair, h·(m+1)·k, and the second arrows
+  -- the block b of t, on k events: its gate, and then its states
+  unfoldable pub fromBlock : ℕ → ℕ → Profile → List Arrow
+  fromBlock k b t = eachBelow k (fromGate b t) ++ gather (λ i x. eachBelow k (fromState b t i x)) 0 ts
+
+-- the second arrows of the block of t, from its gate and from its states: on how many events the profile reached is t
+unfoldable pub secondCount : ℕ → Machine ℕ → ℕ → List Profile → Profile → ℕ
+secondCount W M k ts t =
+    count (λ a. sameProfile (eventProfile W M a) t) (counted 0 k)
+    + total (λ x. count (λ a. sameProfile (join W x (eventProfile W M a)) t) (counted 0 k)) ts
+
+module _ (W : ℕ) (M : Machine ℕ) (k : ℕ) (Ps : List ℕ) (ts bs : List Profile) where
+  -- THE ARROWS: the sets', and then the blocks'
+  unfoldable pub arrows : List Arrow
+  arrows = gather (λ i P. eachBelow k (fromSet W M Ps ts bs i P)) 0 Ps ++ gather (fromBlock W M Ps ts k) 0 bs
+
+  -- THE COUNT OF ARROWS: s·k, k for each rejecting pair with a non-empty set, h·(m+1)·k, and the second arrows
   unfoldable pub arrowCount : ℕ
-  arrowCount =
-      length sets * k
-      + k * pairCount
-      + length (blocks W sets profiles) * (length profiles + 1) * k
-      + total secondCount (blocks W sets profiles)
+  arrowCount = length Ps * k + k * pairCount W Ps ts + length bs * (length ts + 1) * k + total (secondCount W M k ts) bs
 
-  -- THE OPPOSITE MACHINE, read from its written flags and arrows
-  unfoldable pub opposite : Machine ℕ
-  opposite = written flags arrows
+-- THE OPPOSITE MACHINE, read from its written flags and arrows
+unfoldable pub opposite : ℕ → Machine ℕ → ℕ → List ℕ → List Profile → Machine ℕ
+opposite W M k Ps ts =
+    let bs : List Profile = blockProfiles W Ps ts in
+    written (flags Ps ts bs) (arrows W M k Ps ts bs)

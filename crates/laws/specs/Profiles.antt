@@ -1,14 +1,15 @@
--- Document 01, "Sets and profiles": the set and the profile of a word, the join, fitting and rejecting pairs, the two tables, and
--- the verdict. W is the number of states of the kind of model.
-use Prim.Native.Nat.{ℕ, zero, suc}
+-- Document 01, "Sets and profiles": the set and the profile of a word and what they mean, the join, fitting and rejecting pairs, the
+-- two tables, and the verdict. W is the number of states of the kind of model.
+use Prim.Native.Nat.{ℕ, zero, suc, _<_}
+use mathlib.Core.Path.{_≡_}
 use mathlib.Core.Bool.{Bool, true, false, not, _&&_, _||_}
 use mathlib.Core.List.{List, [], _∷_, map}
 use mathlib.Core.Option.{Option, none, some}
 use lib.Dec.{eqb}
-use Rattle.laws.specs.Bits.{bit, number, cell, grid, someBelow}
+use Rattle.laws.specs.Bits.{bit, fromBits, cell, grid, someBelow}
 use Rattle.laws.specs.Words.{Word}
-use Rattle.laws.specs.Model.{Machine}
-use Rattle.laws.specs.Tables.{Closing, Entry, Table, Holds, made, wordOf}
+use Rattle.laws.specs.Model.{Machine, Path, stop, step}
+use Rattle.laws.specs.Tables.{WordValue, Entry, Table, Holds, made, wordOf}
 
 -- a profile: two numbers, whose bits for p, q say whether p leads to q and whether that is marked
 pub record Profile : Type 0 where
@@ -18,20 +19,25 @@ pub record Profile : Type 0 where
 unfoldable pub sameProfile : Profile → Profile → Bool
 sameProfile s t = eqb (s .arrows) (t .arrows) && eqb (s .marks) (t .marks)
 
--- what the search ends with
+-- the values of a list of entries
+unfoldable pub values : {Value : Type 0} → List (Entry Value) → List Value
+values entries = map (λ e. e .value) entries
+
+-- what the search ends with: covered, or u and v
 pub data Verdict : Type 0 where
   covered : Verdict
   uncovered : Word → Word → Verdict
 
 module _ (W : ℕ) where
-  -- t leads from p to q; it does, and is marked
+  -- t leads from p to q
   unfoldable pub leadsTo : Profile → ℕ → ℕ → Bool
   leadsTo t p q = cell W (t .arrows) p q
 
+  -- p to q is marked in t
   unfoldable pub marked : Profile → ℕ → ℕ → Bool
   marked t p q = cell W (t .marks) p q
 
-  -- s then t: p leads to q if some r has p to r in s and r to q in t, and is marked if for some such r one of the two is marked
+  -- s then t: p leads to q if some r has p to r in s and r to q in t; marked if for some such r at least one of the two is marked
   unfoldable pub join : Profile → Profile → Profile
   join s t =
       record {
@@ -41,7 +47,7 @@ module _ (W : ℕ) where
 
   -- all states to which t leads from a state of P
   unfoldable pub image : ℕ → Profile → ℕ
-  image P t = number W (λ q. someBelow W (λ p. bit P p && leadsTo t p q))
+  image P t = fromBits W (λ q. someBelow W (λ p. bit P p && leadsTo t p q))
 
   -- t leads P exactly to P, and t then t is t
   unfoldable pub isFitting : ℕ → Profile → Bool
@@ -61,22 +67,27 @@ module _ (W : ℕ) where
   firstRejecting [] ts i = none
   firstRejecting (P ∷ Ps) ts i = elim (rejectingWith P ts 0) [ some j ↦ some (i, j) | none ↦ firstRejecting Ps ts (suc i) ]
 
-  -- the verdict of two complete tables: covered, or u and v, the least words of the first rejecting pair
+  -- THE VERDICT of two complete tables: covered, or u and v, the least words of the first rejecting pair
   unfoldable pub verdict : List (Entry ℕ) → List (Entry Profile) → Verdict
   verdict sets profiles =
-      elim (firstRejecting (map (λ e. e .value) sets) (map (λ e. e .value) profiles) 0) [
+      elim (firstRejecting (values sets) (values profiles) 0) [
         | none ↦ covered
         | some pair ↦ uncovered (wordOf sets (pair .0)) (wordOf profiles (pair .1))
       ]
 
+-- a path is marked if one of its arrows arrives at a home state
+unfoldable pub markedPath : {S : Type 0} (M : Machine S) {p q : S} {w : Word} → Path M p w q → Bool
+markedPath M stop = false
+markedPath M (step {r = r} h rest) = M .home r || markedPath M rest
+
 module _ (W : ℕ) (M : Machine ℕ) where
   -- the set of the empty word: the start states
   unfoldable pub startSet : ℕ
-  startSet = number W (M .start)
+  startSet = fromBits W (M .start)
 
   -- all states that event a reaches from a state of P
   unfoldable pub after : ℕ → ℕ → ℕ
-  after P a = number W (λ q. someBelow W (λ p. bit P p && M .arrow p a q))
+  after P a = fromBits W (λ q. someBelow W (λ p. bit P p && M .arrow p a q))
 
   -- the set of a word, from the set P of what was read before it
   unfoldable pub setFrom : ℕ → Word → ℕ
@@ -87,6 +98,11 @@ module _ (W : ℕ) (M : Machine ℕ) where
   unfoldable pub setOf : Word → ℕ
   setOf w = setFrom startSet w
 
+  -- WHAT A SET MEANS: all states that a path reading the word reaches from a start state
+  pub record SetMeans (w : Word) (P : ℕ) : Type 0 where
+    pub reached : (p q : ℕ) → M .start p ≡ true → Path M p w q → bit P q ≡ true
+    pub only-reached : (q : ℕ) → bit P q ≡ true → (p : ℕ) × (M .start p ≡ true) × Path M p w q
+
   -- the profile of one event: an arrow is marked when it arrives at a home state
   unfoldable pub eventProfile : ℕ → Profile
   eventProfile a =
@@ -95,42 +111,48 @@ module _ (W : ℕ) (M : Machine ℕ) where
         marks = grid W (λ p q. M .arrow p a q && M .home q);
       }
 
-  -- the profile of a word, from the profile t of what was read before it
-  unfoldable pub profileFrom : Profile → Word → Profile
-  profileFrom t [] = t
-  profileFrom t (a ∷ w) = profileFrom (join W t (eventProfile a)) w
-
-  -- the profile of a word: the empty word has none
-  unfoldable pub profileOf : Word → Option Profile
-  profileOf [] = none
-  profileOf (a ∷ w) = some (profileFrom (eventProfile a) w)
-
-  -- a set or profile with one event more, from that of the word before it. Every word has a set: the first line only completes the table
-  unfoldable pub nextSet : Option ℕ → ℕ → ℕ
-  nextSet none a = after startSet a
-  nextSet (some P) a = after P a
-
+  -- the profile of a word with one event more, from that of the word; the empty word has none
   unfoldable pub nextProfile : Option Profile → ℕ → Profile
   nextProfile none a = eventProfile a
   nextProfile (some t) a = join W t (eventProfile a)
 
-  -- what the two tables close
-  unfoldable pub setClosing : Closing ℕ
-  setClosing = record { of = λ w. some (setOf w); next = nextSet; same = eqb }
+  -- the profile of a word, from the profile x of what was read before it
+  unfoldable pub profileFrom : Option Profile → Word → Option Profile
+  profileFrom x [] = x
+  profileFrom x (a ∷ w) = profileFrom (some (nextProfile x a)) w
 
-  unfoldable pub profileClosing : Closing Profile
-  profileClosing = record { of = profileOf; next = nextProfile; same = sameProfile }
+  -- the profile of a word
+  unfoldable pub profileOf : Word → Option Profile
+  profileOf w = profileFrom none w
 
-  -- THE TWO TABLES over k events, with a room
-  unfoldable pub setTable : ℕ → ℕ → Table ℕ
-  setTable k room = made setClosing k room
+  -- WHAT A PROFILE MEANS: for every p and q, whether some path reading the word leads from p to q, and whether such a path is marked
+  pub record ProfileMeans (w : Word) (t : Profile) : Type 0 where
+    pub path : (p q : ℕ) → p < W → q < W → Path M p w q → leadsTo W t p q ≡ true
+    pub only-path : (p q : ℕ) → p < W → q < W → leadsTo W t p q ≡ true → Path M p w q
+    pub marked-path : (p q : ℕ) → p < W → q < W → (s : Path M p w q) → markedPath M s ≡ true → marked W t p q ≡ true
+    pub only-marked-path : (p q : ℕ) → p < W → q < W → marked W t p q ≡ true → (s : Path M p w q) × (markedPath M s ≡ true)
 
-  unfoldable pub profileTable : ℕ → ℕ → Table Profile
-  profileTable k room = made profileClosing k room
+  -- the values of the two tables. Every word has a set, so the first case of the next set never arises
+  unfoldable pub nextSet : Option ℕ → ℕ → ℕ
+  nextSet none a = 0
+  nextSet (some P) a = after P a
 
-  -- WHAT THEY HOLD
+  unfoldable pub setValue : WordValue ℕ
+  setValue = record { of = λ w. some (setOf w); next = nextSet; same = eqb }
+
+  unfoldable pub profileValue : WordValue Profile
+  profileValue = record { of = profileOf; next = nextProfile; same = sameProfile }
+
+  -- WHAT THE TWO TABLES HOLD, over k events
   abbrev pub HoldsSets : ℕ → List (Entry ℕ) → Type 0
-  HoldsSets k entries = Holds setClosing k entries
+  HoldsSets k entries = Holds setValue k entries
 
   abbrev pub HoldsProfiles : ℕ → List (Entry Profile) → Type 0
-  HoldsProfiles k entries = Holds profileClosing k entries
+  HoldsProfiles k entries = Holds profileValue k entries
+
+  -- HOW THEY ARE MADE, with a room
+  unfoldable pub setTable : ℕ → ℕ → Table ℕ
+  setTable k room = made setValue k room
+
+  unfoldable pub profileTable : ℕ → ℕ → Table Profile
+  profileTable k room = made profileValue k room

@@ -5,14 +5,13 @@ use mathlib.Core.Path.{_≡_}
 use mathlib.Core.Bool.{Bool, true, false, _||_, cond}
 use mathlib.Core.List.{List, [], _∷_, _++_}
 use mathlib.Core.Option.{Option, none, some}
-use lib.ListN.{length, getElem?}
+use lib.ListN.{length, take, getElem?}
 use lib.Dec.{eqb, ltb}
 use Rattle.laws.specs.Bits.{someOf}
-use Rattle.laws.specs.Words.{Word, letters, before}
+use Rattle.laws.specs.Words.{Word, lettersBelow, before}
 
--- what is closed: the value of a word, where it has one; the value of a word with one event more, from that of the word; and the
--- test for equal values
-pub record Closing (Value : Type 0) : Type 0 where
+-- the value of a word, where it has one; the value of a word with one event more, from that of the word; the test for equal values
+pub record WordValue (Value : Type 0) : Type 0 where
   pub of : Word → Option Value
   pub next : Option Value → ℕ → Value
   pub same : Value → Value → Bool
@@ -23,33 +22,33 @@ pub record Entry (Value : Type 0) : Type 0 where
   pub from : ℕ
   pub event : ℕ
 
--- the number of an entry without a predecessor, and the event of the first set
+-- what stands for the predecessor's number where there is none, and for the event of the first set
 abbrev pub noEntry : ℕ
 noEntry = 65535
 
 abbrev pub noEvent : ℕ
 noEvent = 255
 
--- where an entry with number i comes from, when word gives each entry's least word
-pub data Came {Value : Type 0} (C : Closing Value) (word : ℕ → Word) (i : ℕ) : Entry Value → Type 0 where
+-- where the entry with number i comes from, when word gives each entry's least word
+pub data Came {Value : Type 0} (C : WordValue Value) (word : ℕ → Word) (i : ℕ) : Entry Value → Type 0 where
   -- the empty word: no predecessor and no event
   empty-word : {e : Entry Value} → word i ≡ [] → e .from ≡ noEntry → e .event ≡ noEvent → Came C word i e
   -- one event, where the empty word has no value: no predecessor, and the event itself
   one-event : {e : Entry Value} → C .of [] ≡ none → word i ≡ e .event ∷ [] → e .from ≡ noEntry → Came C word i e
-  -- an entry of a smaller number, and then the event
+  -- the word of an entry with a smaller number, and then the event
   one-more : {e : Entry Value} → e .from < i → word i ≡ word (e .from) ++ (e .event ∷ []) → Came C word i e
 
 -- WHAT A TABLE HOLDS, over k events: all values that words have, each once, at the place of its least word
-pub record Holds {Value : Type 0} (C : Closing Value) (k : ℕ) (entries : List (Entry Value)) : Type 0 where
+pub record Holds {Value : Type 0} (C : WordValue Value) (k : ℕ) (entries : List (Entry Value)) : Type 0 where
   -- the least word of each entry, by the entry's number
   pub word : ℕ → Word
   -- an entry's word is a word over the k events, and has the entry's value
-  pub word-letters : (i : ℕ) (e : Entry Value) → getElem? entries i ≡ some e → letters k (word i) ≡ true
+  pub word-letters : (i : ℕ) (e : Entry Value) → getElem? entries i ≡ some e → lettersBelow k (word i) ≡ true
   pub word-value : (i : ℕ) (e : Entry Value) → getElem? entries i ≡ some e → C .of (word i) ≡ some (e .value)
   -- no word before it has that value
-  pub least : (i : ℕ) (e : Entry Value) → getElem? entries i ≡ some e → (w : Word) → letters k w ≡ true → C .of w ≡ some (e .value) → before w (word i) ≡ false
+  pub word-least : (i : ℕ) (e : Entry Value) → getElem? entries i ≡ some e → (w : Word) → lettersBelow k w ≡ true → C .of w ≡ some (e .value) → before w (word i) ≡ false
   -- every value that some word has is there
-  pub all : (w : Word) (x : Value) → letters k w ≡ true → C .of w ≡ some x → (i : ℕ) × (e : Entry Value) × (getElem? entries i ≡ some e) × (e .value ≡ x)
+  pub all : (w : Word) (x : Value) → lettersBelow k w ≡ true → C .of w ≡ some x → (i : ℕ) × (e : Entry Value) × (getElem? entries i ≡ some e) × (e .value ≡ x)
   -- once
   pub once : (i j : ℕ) (e f : Entry Value) → getElem? entries i ≡ some e → getElem? entries j ≡ some f → e .value ≡ f .value → i ≡ j
   -- in the order of their least words
@@ -62,11 +61,16 @@ pub record Table (Value : Type 0) : Type 0 where
   pub entries : List (Entry Value)
   pub cut : Bool
 
+-- WHAT A TABLE WITH A ROOM IS, when complete holds all values: its first entries, and cut exactly if there are more than room
+pub record UpTo {Value : Type 0} (room : ℕ) (complete : List (Entry Value)) (t : Table Value) : Type 0 where
+  pub first : t .entries ≡ take room complete
+  pub cut : t .cut ≡ ltb room (length complete)
+
 -- the value is among the entries
-unfoldable pub stored : {Value : Type 0} → Closing Value → Value → List (Entry Value) → Bool
+unfoldable pub stored : {Value : Type 0} → WordValue Value → Value → List (Entry Value) → Bool
 stored C x entries = someOf (λ e. C .same (e .value) x) entries
 
-module _ {Value : Type 0} (C : Closing Value) (room : ℕ) where
+module _ {Value : Type 0} (C : WordValue Value) (room : ℕ) where
   -- enter an entry: a value that is there already changes nothing; a new one goes to the end, or, with no room left, cuts the
   -- table, and nothing is entered any more
   unfoldable pub enter : Entry Value → Table Value → Table Value
@@ -76,12 +80,13 @@ module _ {Value : Type 0} (C : Closing Value) (room : ℕ) where
       (record { entries = t .entries ++ (e ∷ []); cut = false })
       (record { entries = t .entries; cut = true }))
 
-  -- from entry number i, whose value is x, by d events one after the other, the first of them a
+  -- from entry number i, whose value is x, by d events one after the other, the first of them a. Where the empty word has no value,
+  -- what it leads to comes from no entry: i is then 65,535 and x none
   unfoldable pub byEvents : ℕ → Option Value → ℕ → ℕ → Table Value → Table Value
   byEvents i x zero a t = t
   byEvents i x (suc d) a t = byEvents i x d (suc a) (enter (record { value = C .next x a; from = i; event = a }) t)
 
-module _ {Value : Type 0} (C : Closing Value) (k room : ℕ) where
+module _ {Value : Type 0} (C : WordValue Value) (k room : ℕ) where
   -- from entry number i on, each entry by all k events, until there is none left; d bounds how many
   unfoldable pub byEntries : ℕ → ℕ → Table Value → Table Value
   byEntries zero i t = t
@@ -96,12 +101,12 @@ module _ {Value : Type 0} (C : Closing Value) (k room : ℕ) where
   begun none = byEvents C room noEntry none k 0 (record { entries = []; cut = false })
   begun (some x) = enter C room (record { value = x; from = noEntry; event = noEvent }) (record { entries = []; cut = false })
 
-  -- HOW A TABLE IS MADE, with a room: entries in order, each by the events in order
+  -- HOW A TABLE IS MADE, with a room: entries in order, each by the events in order. There are never more entries than room
   unfoldable pub made : Table Value
   made = byEntries room 0 (begun (C .of []))
 
 module _ {Value : Type 0} where
-  -- the word of entry number i, through ever smaller numbers; d bounds how many
+  -- the word of entry number i, through ever smaller numbers; d bounds how many. No event is 255, so 255 is the empty word's
   unfoldable pub rebuilt : List (Entry Value) → ℕ → ℕ → Word
   rebuilt entries zero i = []
   rebuilt entries (suc d) i =

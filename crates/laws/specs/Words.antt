@@ -1,4 +1,4 @@
--- Words of events: the word of a course repeated, the letters' range, and the order of words.
+-- Words of events: a word repeated, the range of its letters, and the order of words.
 use Prim.Native.Nat.{ℕ, zero, suc}
 use mathlib.Core.Bool.{Bool, true, false, _&&_, _||_}
 use mathlib.Core.List.{List, [], _∷_, _++_}
@@ -15,9 +15,9 @@ power zero v = []
 power (suc i) v = v ++ power i v
 
 -- every letter of the word is below k
-unfoldable pub letters : ℕ → Word → Bool
-letters k [] = true
-letters k (a ∷ w) = ltb a k && letters k w
+unfoldable pub lettersBelow : ℕ → Word → Bool
+lettersBelow k [] = true
+lettersBelow k (a ∷ w) = ltb a k && lettersBelow k w
 
 -- the word has no letter
 unfoldable pub empty : Word → Bool
