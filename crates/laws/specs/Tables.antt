@@ -30,31 +30,31 @@ abbrev pub noEvent : ℕ
 noEvent = 255
 
 -- where the entry with number i comes from, when word gives each entry's least word
-pub data Came {Value : Type 0} (C : WordValue Value) (word : ℕ → Word) (i : ℕ) : Entry Value → Type 0 where
+pub data Came {Value : Type 0} (Val : WordValue Value) (word : ℕ → Word) (i : ℕ) : Entry Value → Type 0 where
   -- the empty word: no predecessor and no event
-  empty-word : {e : Entry Value} → word i ≡ [] → e .from ≡ noEntry → e .event ≡ noEvent → Came C word i e
+  empty-word : {e : Entry Value} → word i ≡ [] → e .from ≡ noEntry → e .event ≡ noEvent → Came Val word i e
   -- one event, where the empty word has no value: no predecessor, and the event itself
-  one-event : {e : Entry Value} → C .of [] ≡ none → word i ≡ e .event ∷ [] → e .from ≡ noEntry → Came C word i e
+  one-event : {e : Entry Value} → Val .of [] ≡ none → word i ≡ e .event ∷ [] → e .from ≡ noEntry → Came Val word i e
   -- the word of an entry with a smaller number, and then the event
-  one-more : {e : Entry Value} → e .from < i → word i ≡ word (e .from) ++ (e .event ∷ []) → Came C word i e
+  one-more : {e : Entry Value} → e .from < i → word i ≡ word (e .from) ++ (e .event ∷ []) → Came Val word i e
 
 -- WHAT A TABLE HOLDS, over k events: all values that words have, each once, at the place of its least word
-pub record Holds {Value : Type 0} (C : WordValue Value) (k : ℕ) (entries : List (Entry Value)) : Type 0 where
+pub record Holds {Value : Type 0} (Val : WordValue Value) (k : ℕ) (entries : List (Entry Value)) : Type 0 where
   -- the least word of each entry, by the entry's number
   pub word : ℕ → Word
   -- an entry's word is a word over the k events, and has the entry's value
   pub word-letters : (i : ℕ) (e : Entry Value) → getElem? entries i ≡ some e → lettersBelow k (word i) ≡ true
-  pub word-value : (i : ℕ) (e : Entry Value) → getElem? entries i ≡ some e → C .of (word i) ≡ some (e .value)
+  pub word-value : (i : ℕ) (e : Entry Value) → getElem? entries i ≡ some e → Val .of (word i) ≡ some (e .value)
   -- no word before it has that value
-  pub word-least : (i : ℕ) (e : Entry Value) → getElem? entries i ≡ some e → (w : Word) → lettersBelow k w ≡ true → C .of w ≡ some (e .value) → before w (word i) ≡ false
+  pub word-least : (i : ℕ) (e : Entry Value) → getElem? entries i ≡ some e → (w : Word) → lettersBelow k w ≡ true → Val .of w ≡ some (e .value) → before w (word i) ≡ false
   -- every value that some word has is there
-  pub all : (w : Word) (x : Value) → lettersBelow k w ≡ true → C .of w ≡ some x → (i : ℕ) × (e : Entry Value) × (getElem? entries i ≡ some e) × (e .value ≡ x)
+  pub all : (w : Word) (x : Value) → lettersBelow k w ≡ true → Val .of w ≡ some x → (i : ℕ) × (e : Entry Value) × (getElem? entries i ≡ some e) × (e .value ≡ x)
   -- once
   pub once : (i j : ℕ) (e f : Entry Value) → getElem? entries i ≡ some e → getElem? entries j ≡ some f → e .value ≡ f .value → i ≡ j
   -- in the order of their least words
   pub ordered : (i j : ℕ) → i < j → j < length entries → before (word i) (word j) ≡ true
   -- each with its predecessor and event
-  pub came : (i : ℕ) (e : Entry Value) → getElem? entries i ≡ some e → Came C word i e
+  pub came : (i : ℕ) (e : Entry Value) → getElem? entries i ≡ some e → Came Val word i e
 
 -- a table in the making: the entries so far, and whether a new value came for which there was no room
 pub record Table (Value : Type 0) : Type 0 where
@@ -68,14 +68,14 @@ pub record UpTo {Value : Type 0} (room : ℕ) (complete : List (Entry Value)) (t
 
 -- the value is among the entries
 unfoldable pub stored : {Value : Type 0} → WordValue Value → Value → List (Entry Value) → Bool
-stored C x entries = someOf (λ e. C .same (e .value) x) entries
+stored Val x entries = someOf (λ e. Val .same (e .value) x) entries
 
-module _ {Value : Type 0} (C : WordValue Value) (room : ℕ) where
+module _ {Value : Type 0} (Val : WordValue Value) (room : ℕ) where
   -- enter an entry: a value that is there already changes nothing; a new one goes to the end, or, with no room left, cuts the
   -- table, and nothing is entered any more
   unfoldable pub enter : Entry Value → Table Value → Table Value
   enter e t =
-      cond (t .cut || stored C (e .value) (t .entries)) t
+      cond (t .cut || stored Val (e .value) (t .entries)) t
       (cond (ltb (length (t .entries)) room)
       (record { entries = t .entries ++ (e ∷ []); cut = false })
       (record { entries = t .entries; cut = true }))
@@ -84,26 +84,26 @@ module _ {Value : Type 0} (C : WordValue Value) (room : ℕ) where
   -- what it leads to comes from no entry: i is then 65,535 and x none
   unfoldable pub byEvents : ℕ → Option Value → ℕ → ℕ → Table Value → Table Value
   byEvents i x zero a t = t
-  byEvents i x (suc d) a t = byEvents i x d (suc a) (enter (record { value = C .next x a; from = i; event = a }) t)
+  byEvents i x (suc d) a t = byEvents i x d (suc a) (enter (record { value = Val .next x a; from = i; event = a }) t)
 
-module _ {Value : Type 0} (C : WordValue Value) (k room : ℕ) where
+module _ {Value : Type 0} (Val : WordValue Value) (k room : ℕ) where
   -- from entry number i on, each entry by all k events, until there is none left; d bounds how many
   unfoldable pub byEntries : ℕ → ℕ → Table Value → Table Value
   byEntries zero i t = t
   byEntries (suc d) i t =
       elim (getElem? (t .entries) i) [
         | none ↦ t
-        | some e ↦ byEntries d (suc i) (byEvents C room i (some (e .value)) k 0 t)
+        | some e ↦ byEntries d (suc i) (byEvents Val room i (some (e .value)) k 0 t)
       ]
 
   -- where a table begins: with the value of the empty word, or, where that has none, with the values of one event
   unfoldable pub begun : Option Value → Table Value
-  begun none = byEvents C room noEntry none k 0 (record { entries = []; cut = false })
-  begun (some x) = enter C room (record { value = x; from = noEntry; event = noEvent }) (record { entries = []; cut = false })
+  begun none = byEvents Val room noEntry none k 0 (record { entries = []; cut = false })
+  begun (some x) = enter Val room (record { value = x; from = noEntry; event = noEvent }) (record { entries = []; cut = false })
 
   -- HOW A TABLE IS MADE, with a room: entries in order, each by the events in order. There are never more entries than room
   unfoldable pub made : Table Value
-  made = byEntries room 0 (begun (C .of []))
+  made = byEntries room 0 (begun (Val .of []))
 
 module _ {Value : Type 0} where
   -- the word of entry number i, through ever smaller numbers; d bounds how many. No event is 255, so 255 is the empty word's
