@@ -8,7 +8,7 @@ use lib.ListN.{length, replicate}
 use Rattle.laws.specs.Words.{Word, before, power}
 use Rattle.laws.specs.Model.{Model, eight}
 use Rattle.laws.specs.Refusals.{firstOf, courseChecks}
-use Rattle.laws.specs.Answers.{SetSlices, ProfileSlices, OppositeSlices, setRoom, profileRoom, stateRoom, arrowRoom, oppositeLimit, setSlices, profileSlices, oppositeSlices, VerdictAnswer, verdictAnswer, oppositeAnswer, words, verdictIn, oppositeIn, wordMemory}
+use Rattle.laws.specs.Answers.{SetSlices, ProfileSlices, OppositeSlices, setRoom, profileRoom, stateRoom, arrowRoom, setSlices, profileSlices, oppositeSlices, VerdictAnswer, verdictAnswer, oppositeAnswer, words, verdictIn, oppositeIn, wordMemory}
 use Rattle.laws.specs.HandWorked.{_⇒_, event, mask, A, C, D}
 use Rattle.laws.proofs.Computed.{computed}
 
@@ -145,7 +145,8 @@ opposite-rooms : map arrowRoom
     ∷ record { from = lent 5; event = lent 3; to = lent 4; flags = [] }
     ∷ record { from = lent 4; event = lent 5; to = lent 3; flags = [] }
     ∷ [])
-    ++ (stateRoom (record { from = []; event = []; to = []; flags = lent 7 }) ∷ oppositeLimit ∷ [])
+    ++ map stateRoom
+    (record { from = []; event = []; to = []; flags = lent 7 } ∷ record { from = []; event = []; to = []; flags = lent 65536 } ∷ [])
     ≡ 3 ∷ 3 ∷ 3 ∷ 7 ∷ 65535 ∷ []
 unfolding computed lent
 opposite-rooms = refl

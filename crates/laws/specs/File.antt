@@ -13,6 +13,7 @@ use Rattle.laws.specs.Refusals.{Check, Fault, firstOf, fault, outside, m
 unfoldable pub head : ℕ → ℕ → List ℕ
 head tag size = tag ∷ size % 256 ∷ size / 256 ∷ []
 
+-- a field: its head and its value
 unfoldable pub field : ℕ → List ℕ → List ℕ
 field tag value = head tag (length value) ++ value
 

@@ -16,6 +16,7 @@ pub record Arrow : Type 0 where
   pub event : ℕ
   pub to : ℕ
 
+-- the arrow on event a from p to q, and the test for it
 unfoldable pub arrow : ℕ → ℕ → ℕ → Arrow
 arrow p a q = record { from = p; event = a; to = q }
 

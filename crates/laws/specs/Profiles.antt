@@ -16,6 +16,7 @@ pub record Profile : Type 0 where
   pub arrows : ℕ
   pub marks : ℕ
 
+-- both numbers are equal
 unfoldable pub sameProfile : Profile → Profile → Bool
 sameProfile s t = eqb (s .arrows) (t .arrows) && eqb (s .marks) (t .marks)
 

@@ -25,6 +25,7 @@ unfoldable pub firstOf : List Check → Fault
 firstOf [] = record { number = 0; offset = 0 }
 firstOf (c ∷ cs) = elim (c .applies) [ true ↦ record { number = c .number; offset = c .offset } | false ↦ firstOf cs ]
 
+-- a check with its number and its place in a file
 unfoldable pub fault : ℕ → ℕ → Bool → Check
 fault number offset applies = record { number = number; offset = offset; applies = applies }
 
@@ -40,7 +41,8 @@ outside limit x = ltb x 1 || ltb limit x
 unfoldable pub maskBeyond : ℕ → ℕ → Bool
 maskBeyond n x = leb (2 ^ n) x
 
--- an event's number has a bit for p, q where p or q is n or above: a bit in row n or above, or one beyond n in a row below
+-- an event's number has a bit for p, q where p or q is n or above: a bit in row n or above, or, in a row below, a
+-- bit n or above
 unfoldable pub arrowsBeyond : ℕ → ℕ → ℕ → Bool
 arrowsBeyond W n x = leb (2 ^ (W * n)) x || someBelow n (λ p. maskBeyond n (packedRow W x p))
 
