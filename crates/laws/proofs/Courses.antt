@@ -1,5 +1,5 @@
--- Two courses worked by hand against the definition of "accepted": model E accepts (empty, 0), and model C does not accept (0, 1), since
--- event 1 leads to state 0 alone, which is not home. Assumes nothing.
+-- Courses worked by hand against the definition of "accepted": model E accepts (empty, 0). Model C does not accept (0, 1), since event 1
+-- leads to state 0 alone, which is not home; C's opposite, read from its written lists, does. Assumes nothing.
 use Prim.Native.Nat.{ℕ, zero, suc, _≤_, _<_}
 use native.Mathlib.Omega.{arith}
 use mathlib.Core.Path.{_≡_, refl, sym, ap, ap₂, _∙_}
@@ -11,8 +11,11 @@ use borrow.Author.Tests.{ltb-true}
 use Rattle.laws.specs.Bits.{cell}
 use Rattle.laws.specs.Words.{Word, power}
 use Rattle.laws.specs.Model.{Machine, Path, stop, step, homed, Accepted, isState, leads, machine}
+use Rattle.laws.specs.Profiles.{markedPath}
+use Rattle.laws.specs.Opposite.{written}
 use Rattle.laws.specs.HandWorked.{C, E}
 use Rattle.laws.proofs.Computed.{computed}
+use Rattle.laws.proofs.HandWorked.{c-flags, c-arrows}
 
 -- 0 to 1 and back, past the home state 1
 pub e-accepts : Accepted (machine 8 E) [] (0 ∷ [])
@@ -65,3 +68,33 @@ lost (suc j) z (step {p = p} {r = r} e s) =
 -- so its round can have no home state
 pub c-rejects : Accepted (machine 8 C) (0 ∷ []) (1 ∷ []) → ⊥
 c-rejects a = false≢true (sym (lost (a .j) (ends (a .j) (a .j-from-1) (a .round)) (a .round)) ∙ a .round-homed)
+
+-- in the opposite: from set 0 by event 0 to set 1, by event 1 to set 0, to the state of event 1 in the block, to the gate; and by event 1
+-- from the gate to the gate
+pub c-opposite-accepts : Accepted (written c-flags c-arrows) (0 ∷ []) (1 ∷ [])
+unfolding computed c-flags c-arrows
+c-opposite-accepts =
+    record {
+      i = 3;
+      j = 1;
+      r = 2;
+      from = 0;
+      from-start = refl;
+      reach = step {r = 1} refl (step {r = 0} refl (step {r = 4} refl (step {r = 2} refl stop)));
+      j-from-1 = omega arith;
+      round = step {r = 2} refl stop;
+      round-homed = refl;
+    }
+
+-- in E the arrow from 0 to the home state 1 is marked, the one back is not, and a path with one marked arrow is
+marks : List Bool
+unfolding computed
+marks =
+    markedPath (machine 8 E) (step {p = 0} {r = 1} {a = 0} refl stop)
+    ∷ markedPath (machine 8 E) (step {p = 1} {r = 0} {a = 0} refl stop)
+    ∷ markedPath (machine 8 E) (step {p = 1} {r = 0} {a = 0} refl (step {r = 1} {a = 0} refl stop))
+    ∷ []
+
+e-marks : marks ≡ true ∷ false ∷ true ∷ []
+unfolding computed marks markedPath
+e-marks = refl

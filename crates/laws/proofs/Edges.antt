@@ -4,11 +4,13 @@ use Prim.Native.Nat.{ℕ, _^_}
 use mathlib.Core.Path.{_≡_, refl}
 use mathlib.Core.Bool.{true, false}
 use mathlib.Core.List.{List, [], _∷_, _++_, map}
+use mathlib.Core.Option.{some}
 use lib.ListN.{length, replicate}
 use Rattle.laws.specs.Words.{Word, before, power}
 use Rattle.laws.specs.Model.{Model, eight}
+use Rattle.laws.specs.Profiles.{uncovered}
 use Rattle.laws.specs.Refusals.{firstOf, courseChecks}
-use Rattle.laws.specs.Answers.{SetSlices, ProfileSlices, OppositeSlices, setRoom, profileRoom, stateRoom, arrowRoom, setSlices, profileSlices, oppositeSlices, VerdictAnswer, verdictAnswer, oppositeAnswer, words, verdictIn, oppositeIn, wordMemory}
+use Rattle.laws.specs.Answers.{SetSlices, ProfileSlices, OppositeSlices, setRoom, profileRoom, stateRoom, arrowRoom, setSlices, profileSlices, oppositeSlices, VerdictAnswer, verdictAnswer, oppositeAnswer, words, closingIn, verdictIn, oppositeIn, wordMemory}
 use Rattle.laws.specs.HandWorked.{_⇒_, event, mask, A, C, D}
 use Rattle.laws.proofs.Computed.{computed}
 
@@ -50,10 +52,11 @@ beyond : map numberOf
     ∷ given 2 1 0 (mask (7 ∷ [])) (0 ∷ [])
     ∷ given 2 1 0 0 (event (2 ⇒ 0 ∷ []) ∷ [])
     ∷ given 2 1 0 0 (event (0 ⇒ 2 ∷ []) ∷ [])
+    ∷ given 2 1 0 0 (event (1 ⇒ 7 ∷ []) ∷ [])
     ∷ given 7 2 0 0 (0 ∷ event (7 ⇒ 7 ∷ []) ∷ [])
     ∷ given 2 1 0 0 (0 ∷ event (7 ⇒ 7 ∷ []) ∷ [])
     ∷ [])
-    ≡ 3 ∷ 3 ∷ 3 ∷ 3 ∷ 3 ∷ 0 ∷ []
+    ≡ 3 ∷ 3 ∷ 3 ∷ 3 ∷ 3 ∷ 3 ∷ 0 ∷ []
 unfolding computed numberOf given
 beyond = refl
 
@@ -144,10 +147,11 @@ opposite-rooms : map arrowRoom
     (record { from = lent 3; event = lent 4; to = lent 5; flags = [] }
     ∷ record { from = lent 5; event = lent 3; to = lent 4; flags = [] }
     ∷ record { from = lent 4; event = lent 5; to = lent 3; flags = [] }
+    ∷ record { from = lent 65536; event = lent 65536; to = lent 65536; flags = [] }
     ∷ [])
     ++ map stateRoom
     (record { from = []; event = []; to = []; flags = lent 7 } ∷ record { from = []; event = []; to = []; flags = lent 65536 } ∷ [])
-    ≡ 3 ∷ 3 ∷ 3 ∷ 7 ∷ 65535 ∷ []
+    ≡ 3 ∷ 3 ∷ 3 ∷ 65535 ∷ 7 ∷ 65535 ∷ []
 unfolding computed lent
 opposite-rooms = refl
 
@@ -190,6 +194,46 @@ d-words : afterVerdict (verdictIn eight D c-sets c-profiles (lent 1)) (lent 1)
     )
 unfolding computed lent c-sets c-profiles afterVerdict
 d-words = refl
+
+-- each call goes by the room of its own slices: D needs 2 sets, 1 profile, 2 bytes, 2 states and 2 arrows
+one-set : SetSlices
+one-set = record { masks = lent 4; from = lent 4; event = lent 1 }
+
+no-profile : ProfileSlices
+no-profile = record { arrows = lent 4; marks = lent 0; from = lent 4; event = lent 4 }
+
+d-closing : closingIn eight D one-set c-profiles .number ∷ closingIn eight D c-sets no-profile .number ∷ closingIn eight D c-sets c-profiles .number ∷ []
+    ≡ 4 ∷ 5 ∷ 0 ∷ []
+unfolding computed lent c-sets c-profiles one-set no-profile
+d-closing = refl
+
+d-verdict : verdictIn eight D one-set c-profiles (lent 2) .number
+    ∷ verdictIn eight D c-sets no-profile (lent 2) .number
+    ∷ verdictIn eight D c-sets c-profiles (lent 1) .number
+    ∷ verdictIn eight D c-sets c-profiles (lent 2) .number
+    ∷ []
+    ≡ 4 ∷ 5 ∷ 6 ∷ 0 ∷ []
+unfolding computed lent c-sets c-profiles one-set no-profile
+d-verdict = refl
+
+-- the opposite's slices with room for so many arrows and states
+opposite-lent : ℕ → ℕ → OppositeSlices
+opposite-lent arrows states = record { from = lent arrows; event = lent 3; to = lent 3; flags = lent states }
+
+d-opposites : oppositeIn eight D one-set c-profiles (opposite-lent 2 2) .number
+    ∷ oppositeIn eight D c-sets no-profile (opposite-lent 2 2) .number
+    ∷ oppositeIn eight D c-sets c-profiles (opposite-lent 1 2) .number
+    ∷ oppositeIn eight D c-sets c-profiles (opposite-lent 2 1) .number
+    ∷ oppositeIn eight D c-sets c-profiles (opposite-lent 2 2) .number
+    ∷ []
+    ≡ 4 ∷ 5 ∷ 7 ∷ 7 ∷ 0 ∷ []
+unfolding computed lent c-sets c-profiles one-set no-profile opposite-lent
+d-opposites = refl
+
+-- u first
+u-first : words (some (uncovered (1 ∷ 2 ∷ []) (3 ∷ []))) ≡ 1 ∷ 2 ∷ 3 ∷ []
+unfolding computed
+u-first = refl
 
 -- D's opposite in lent memory; with one state of room nothing of it is written
 d-opposite : OppositeSlices → OppositeSlices

@@ -2,17 +2,19 @@
 -- Assumes nothing.
 use Prim.Native.Nat.{ℕ}
 use mathlib.Core.Path.{_≡_, refl}
-use mathlib.Core.Bool.{Bool, true}
-use mathlib.Core.List.{List, [], _∷_, map}
+use mathlib.Core.Bool.{Bool, true, false}
+use mathlib.Core.List.{List, [], _∷_, _++_, map}
+use mathlib.Core.Option.{Option, none, some}
 use lib.ListN.{length}
-use Rattle.laws.specs.Model.{Model, eight}
+use Rattle.laws.specs.Bits.{counted, keep, eachBelow}
+use Rattle.laws.specs.Model.{Model, eight, machine}
 use Rattle.laws.specs.Tables.{Entry, noEntry, noEvent}
-use Rattle.laws.specs.Profiles.{Profile}
-use Rattle.laws.specs.Opposite.{Arrow, arrow, sorted}
+use Rattle.laws.specs.Profiles.{Profile, values, setValue, profileOf}
+use Rattle.laws.specs.Opposite.{Arrow, arrow, sorted, written, opposite}
 use Rattle.laws.specs.Refusals.{Fault}
 use Rattle.laws.specs.File.{fileOf, reading}
 use Rattle.laws.specs.Answers.{closingAnswer, OppositeAnswer, oppositeAnswer}
-use Rattle.laws.specs.HandWorked.{C, D, E, H, Row, rowOf, rows, ownRows}
+use Rattle.laws.specs.HandWorked.{C, D, E, H, Shuttle, Row, rowOf, rows, ownRows}
 use Rattle.laws.proofs.Computed.{computed}
 
 -- both hold
@@ -35,6 +37,25 @@ pub own-table : Right ownRows
 unfolding computed
 own-table = refl ▸ refl ▸ refl ▸ refl ▸ tt
 
+-- sets and profiles of words: there and back in Shuttle, and E's marks
+profileIs : ℕ → ℕ → Option Profile
+profileIs arrows marks = some (record { arrows = arrows; marks = marks })
+
+shuttle-sets : map (setValue 8 (machine 8 Shuttle) .of) ([] ∷ (0 ∷ []) ∷ (1 ∷ []) ∷ (0 ∷ 1 ∷ []) ∷ (0 ∷ 1 ∷ 0 ∷ []) ∷ (0 ∷ 0 ∷ []) ∷ [])
+    ≡ some 1 ∷ some 2 ∷ some 0 ∷ some 1 ∷ some 2 ∷ some 0 ∷ []
+unfolding computed
+shuttle-sets = refl
+
+shuttle-profiles : map (profileOf 8 (machine 8 Shuttle)) ([] ∷ (0 ∷ []) ∷ (1 ∷ []) ∷ (0 ∷ 1 ∷ []) ∷ (1 ∷ 0 ∷ []) ∷ (0 ∷ 0 ∷ []) ∷ [])
+    ≡ none ∷ profileIs 2 0 ∷ profileIs 256 0 ∷ profileIs 1 0 ∷ profileIs 512 0 ∷ profileIs 0 0 ∷ []
+unfolding computed profileIs
+shuttle-profiles = refl
+
+e-profiles : map (profileOf 8 (machine 8 E)) ((0 ∷ []) ∷ (0 ∷ 0 ∷ []) ∷ (0 ∷ 0 ∷ 0 ∷ []) ∷ [])
+    ≡ profileIs 258 2 ∷ profileIs 513 513 ∷ profileIs 258 258 ∷ []
+unfolding computed profileIs
+e-profiles = refl
+
 -- the tables of E, entry by entry
 set : ℕ → ℕ → ℕ → Entry ℕ
 set P from event = record { value = P; from = from; event = event }
@@ -54,8 +75,18 @@ e-tables = refl
 opposing : Model → OppositeAnswer
 opposing m = oppositeAnswer eight m 256 2048 65535 65535
 
+-- C's tables
+c-set-entries : List (Entry ℕ)
+c-set-entries = set 1 noEntry noEvent ∷ set 2 0 0 ∷ []
+
+c-profile-entries : List (Entry Profile)
+c-profile-entries = profile 514 514 noEntry 0 ∷ profile 257 0 noEntry 1 ∷ profile 257 257 0 1 ∷ []
+
 -- C's opposite has 6 states, of which only 2 accepts, and 16 arrows
-c-arrows : List Arrow
+unfoldable pub c-flags : List ℕ
+c-flags = 0 ∷ 0 ∷ 1 ∷ 0 ∷ 0 ∷ 0 ∷ []
+
+unfoldable pub c-arrows : List Arrow
 c-arrows =
     arrow 0 0 1 ∷ arrow 0 0 3 ∷ arrow 0 1 0 ∷ arrow 0 1 4
     ∷ arrow 1 0 1 ∷ arrow 1 1 0
@@ -66,18 +97,42 @@ c-arrows =
 
 c-opposite : opposing C ≡ record {
   number = 0;
-  sets = set 1 noEntry noEvent ∷ set 2 0 0 ∷ [];
-  profiles = profile 514 514 noEntry 0 ∷ profile 257 0 noEntry 1 ∷ profile 257 257 0 1 ∷ [];
-  flags = 0 ∷ 0 ∷ 1 ∷ 0 ∷ 0 ∷ 0 ∷ [];
+  sets = c-set-entries;
+  profiles = c-profile-entries;
+  flags = c-flags;
   arrows = c-arrows;
 }
-unfolding computed set profile opposing c-arrows
+unfolding computed set profile opposing c-set-entries c-profile-entries c-flags c-arrows
 c-opposite = refl
 
--- its arrows are sorted, with no arrow twice
-c-sorted : sorted c-arrows ≡ true
+-- the opposite machine of C's tables is what these flags and arrows are, once written
+c-machine : opposite 8 (machine 8 C) 2 (values c-set-entries) (values c-profile-entries) ≡ written c-flags c-arrows
+unfolding computed set profile c-set-entries c-profile-entries c-flags c-arrows
+c-machine = refl
+
+-- read back, the machine has these arrows among all from, event and to, and no others, starts in 0 and accepts in 2
+c-read-back : keep (λ e. written c-flags c-arrows .arrow (e .from) (e .event) (e .to))
+    (eachBelow 6 (λ p. eachBelow 2 (λ a. eachBelow 6 (λ q. arrow p a q ∷ []))))
+    ≡ c-arrows
+unfolding computed c-arrows c-flags
+c-read-back = refl
+
+c-ends : keep (written c-flags c-arrows .start) (counted 0 6) ++ keep (written c-flags c-arrows .home) (counted 0 6) ≡ 0 ∷ 2 ∷ []
+unfolding computed c-arrows c-flags
+c-ends = refl
+
+-- its arrows are sorted; with two exchanged, by from, event or to, or with one twice they are not
+sortings : map sorted
+    (c-arrows
+    ∷ (arrow 1 0 0 ∷ arrow 0 1 1 ∷ [])
+    ∷ (arrow 0 1 0 ∷ arrow 0 0 1 ∷ [])
+    ∷ (arrow 0 0 1 ∷ arrow 0 0 0 ∷ [])
+    ∷ (arrow 0 0 0 ∷ arrow 0 0 0 ∷ [])
+    ∷ (arrow 0 0 0 ∷ arrow 2 0 0 ∷ arrow 1 0 0 ∷ [])
+    ∷ [])
+    ≡ true ∷ false ∷ false ∷ false ∷ false ∷ false ∷ []
 unfolding computed c-arrows
-c-sorted = refl
+sortings = refl
 
 -- D's has 2 states, of which 1 accepts, and 2 arrows
 d-opposite : opposing D ≡ record {
