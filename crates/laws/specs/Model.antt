@@ -1,6 +1,6 @@
 -- Document 01, "The model": machines, their paths and the courses they accept; the model, and the machine that it is.
 -- A machine is over any type of states, so that one definition of "accepted" serves the model and its opposite.
-use Prim.Native.Nat.{ℕ, _≤_}
+use Prim.Native.Nat.{ℕ, _≤_, _<_}
 use mathlib.Core.Path.{_≡_}
 use mathlib.Core.Bool.{Bool, true, false, _&&_, _||_}
 use mathlib.Core.List.{List, [], _∷_, _++_}
@@ -81,3 +81,9 @@ machine W m =
       home = λ p. isState m p && bit (m .home) p;
       arrow = λ p a q. leads W m p a q;
     }
+
+-- the states of a machine are below W
+pub record Within (W : ℕ) (M : Machine ℕ) : Type 0 where
+  pub start-below : (p : ℕ) → M .start p ≡ true → p < W
+  pub from-below : (p a q : ℕ) → M .arrow p a q ≡ true → p < W
+  pub to-below : (p a q : ℕ) → M .arrow p a q ≡ true → q < W

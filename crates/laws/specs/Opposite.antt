@@ -3,11 +3,13 @@
 -- profiles; bs are the profiles that have a block.
 use Prim.Native.Nat.{ℕ, zero, suc, _+_, _*_}
 use mathlib.Core.Bool.{Bool, true, false, not, _&&_, _||_, cond}
+use mathlib.Core.Logic.{_⊎_}
 use mathlib.Core.List.{List, [], _∷_, _++_, map}
 use lib.ListN.{length, getD, replicate}
 use lib.Dec.{eqb, ltb}
 use Rattle.laws.specs.Bits.{counted, someOf, everyOf, keep, total, count, gather, placeOf, eachBelow}
-use Rattle.laws.specs.Model.{Machine}
+use Rattle.laws.specs.Words.{Word}
+use Rattle.laws.specs.Model.{Machine, Accepted, Course}
 use Rattle.laws.specs.Profiles.{Profile, sameProfile, join, isRejecting, after, eventProfile}
 
 -- an arrow of a written machine
@@ -117,3 +119,8 @@ unfoldable pub opposite : ℕ → Machine ℕ → ℕ → List ℕ → List Prof
 opposite W M k Ps ts =
     let bs : List Profile = blockProfiles W Ps ts in
     written (flags Ps ts bs) (arrows W M k Ps ts bs)
+
+-- WHAT AN OPPOSITE IS, over k events: of every course exactly one of the two machines accepts
+pub record Opposed {S T : Type 0} (M : Machine S) (O : Machine T) (k : ℕ) : Type 0 where
+  pub one : (u v : Word) → Course k u v → Accepted M u v ⊎ Accepted O u v
+  pub not-both : (u v : Word) → Course k u v → Accepted M u v → Accepted O u v → ⊥

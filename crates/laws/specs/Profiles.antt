@@ -8,7 +8,7 @@ use mathlib.Core.Option.{Option, none, some}
 use lib.Dec.{eqb}
 use Rattle.laws.specs.Bits.{bit, fromBits, cell, grid, someBelow}
 use Rattle.laws.specs.Words.{Word}
-use Rattle.laws.specs.Model.{Machine, Path, stop, step}
+use Rattle.laws.specs.Model.{Machine, Path, stop, step, Accepted, Course}
 use Rattle.laws.specs.Tables.{WordValue, Entry, Table, Holds, made, wordOf}
 
 -- a profile: two numbers, whose bits for p, q say whether p leads to q and whether that is marked
@@ -28,6 +28,14 @@ values entries = map (λ e. e .value) entries
 pub data Verdict : Type 0 where
   covered : Verdict
   uncovered : Word → Word → Verdict
+
+-- WHAT A RIGHT VERDICT IS, over k events: "covered" exactly if every course is accepted; otherwise u and v are a course with no
+-- accepting run
+pub record RightVerdict {S : Type 0} (M : Machine S) (k : ℕ) (answer : Verdict) : Type 0 where
+  pub covered-accepts : answer ≡ covered → (u v : Word) → Course k u v → Accepted M u v
+  pub accepts-covered : ((u v : Word) → Course k u v → Accepted M u v) → answer ≡ covered
+  pub uncovered-course : (u v : Word) → answer ≡ uncovered u v → Course k u v
+  pub uncovered-rejects : (u v : Word) → answer ≡ uncovered u v → Accepted M u v → ⊥
 
 module _ (W : ℕ) where
   -- t leads from p to q

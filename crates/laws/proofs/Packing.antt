@@ -1,0 +1,117 @@
+-- Numbers as bits, over any width: the number with given bits has them and no others, and a number is given by its bits.
+use Prim.Native.Nat.{ℕ, zero, suc, _+_, _*_, _/_, _%_, _^_, _<_, _≤_}
+use native.Mathlib.Omega.{arith}
+use native.Mathlib.Nat.{pow-succ', div-one, div-div-eq-div-mul, mul-suc, mul-le-mul-left, mul-add-div, div-eq-of-lt, mul-add-mod-self-left, mod-eq-of-lt, div-lt-iff-lt-mul, mod-lt}
+use mathlib.Core.Path.{_≡_, refl, sym, ap, ap₂, _∙_}
+use mathlib.Core.Bool.{Bool, true, false, cond, false≢true}
+use lib.Dec.{eqb}
+use borrow.Author.Tests.{eqb-true, eqb-false, eq-eqb, ne-eqb}
+use Rattle.laws.specs.Bits.{bit, fromBits, cell, grid}
+
+-- bit 0 is the remainder by two
+bit-zero : (x : ℕ) → bit x 0 ≡ eqb (x % 2) 1
+unfolding bit
+bit-zero x = ap (λ y. eqb (y % 2) 1) (div-one x)
+
+-- the other bits are those of the half
+bit-suc : (x i : ℕ) → bit x (suc i) ≡ bit (x / 2) i
+unfolding bit
+bit-suc x i = ap (λ (y : ℕ). eqb (y % 2) 1) (ap (λ y. x / y) (pow-succ' 2 i) ∙ sym (div-div-eq-div-mul x 2 (2 ^ i)))
+
+-- a digit and a rest: the digit is bit 0, the rest is the half
+digit : (b : Bool) (y : ℕ) → eqb ((cond b 1 0 + 2 * y) % 2) 1 ≡ b
+digit true y = eq-eqb ((1 + 2 * y) % 2) 1 (omega arith)
+digit false y = ne-eqb ((0 + 2 * y) % 2) 1 (λ e. omega arith)
+
+rest : (b : Bool) (y : ℕ) → (cond b 1 0 + 2 * y) / 2 ≡ y
+rest true y = omega arith
+rest false y = omega arith
+
+-- the number with given bits has them
+pub bit-fromBits : (N : ℕ) (f : ℕ → Bool) (i : ℕ) → i < N → bit (fromBits N f) i ≡ f i
+unfolding fromBits
+bit-fromBits zero f i h = absurd (omega arith)
+bit-fromBits (suc N) f zero h = bit-zero (cond (f 0) 1 0 + 2 * fromBits N (λ i. f (suc i))) ∙ digit (f 0) (fromBits N (λ i. f (suc i)))
+bit-fromBits (suc N) f (suc i) h =
+    bit-suc (cond (f 0) 1 0 + 2 * fromBits N (λ i. f (suc i))) i
+    ∙ ap (λ y. bit y i) (rest (f 0) (fromBits N (λ i. f (suc i))))
+    ∙ bit-fromBits N (λ i. f (suc i)) i (omega arith)
+
+-- and is below 2^N
+pub fromBits-below : (N : ℕ) (f : ℕ → Bool) → fromBits N f < 2 ^ N
+unfolding fromBits
+fromBits-below zero f = omega arith
+fromBits-below (suc N) f = go (f 0) (fromBits N (λ i. f (suc i))) (fromBits-below N (λ i. f (suc i)))
+  where
+    go : (b : Bool) (y : ℕ) → y < 2 ^ N → cond b 1 0 + 2 * y < 2 ^ suc N
+    go true y l = omega (arith, pow-succ' 2 N)
+    go false y l = omega (arith, pow-succ' 2 N)
+
+-- a number below 2^N has no bit from N on
+pub bit-beyond : (N x i : ℕ) → x < 2 ^ N → N ≤ i → bit x i ≡ false
+bit-beyond zero x zero h l = bit-zero x ∙ ne-eqb (x % 2) 1 (λ e. omega arith)
+bit-beyond zero x (suc i) h l = bit-suc x i ∙ bit-beyond zero (x / 2) i (omega arith) (omega arith)
+bit-beyond (suc N) x zero h l = absurd (omega arith)
+bit-beyond (suc N) x (suc i) h l = bit-suc x i ∙ bit-beyond N (x / 2) i (omega (arith, pow-succ' 2 N)) (omega arith)
+
+-- two numbers below 2^N with the same bits are equal
+pub same-bits : (N x y : ℕ) → x < 2 ^ N → y < 2 ^ N → ((i : ℕ) → i < N → bit x i ≡ bit y i) → x ≡ y
+same-bits zero x y hx hy h = omega arith
+same-bits (suc N) x y hx hy h =
+    let halves : x / 2 ≡ y / 2 = same-bits N (x / 2) (y / 2) (omega (arith, pow-succ' 2 N)) (omega (arith, pow-succ' 2 N)) (λ i l. sym (bit-suc x i) ∙ h (suc i) (omega arith) ∙ bit-suc y i) in
+    let low : x % 2 ≡ y % 2 = go (eqb (x % 2) 1) (eqb (y % 2) 1) refl refl (sym (bit-zero x) ∙ h 0 (omega arith) ∙ bit-zero y) in
+    omega arith
+  where
+    go : (b c : Bool) → eqb (x % 2) 1 ≡ b → eqb (y % 2) 1 ≡ c → eqb (x % 2) 1 ≡ eqb (y % 2) 1 → x % 2 ≡ y % 2
+    go true c e f g = let p = eqb-true (x % 2) 1 e in let q = eqb-true (y % 2) 1 (sym g ∙ e) in omega arith
+    go false c e f g = let p = eqb-false (x % 2) 1 e in let q = eqb-false (y % 2) 1 (sym g ∙ e) in omega arith
+
+-- 0 has no bit, and is below 2^N
+pub no-bit : (i : ℕ) → bit 0 i ≡ false
+no-bit i = bit-beyond 0 0 i (omega arith) (omega arith)
+
+pub positive : (N : ℕ) → 0 < 2 ^ N
+positive zero = omega arith
+positive (suc N) = let l = positive N in omega (arith, pow-succ' 2 N)
+
+-- bits that agree below N give one number
+pub fromBits-same : (N : ℕ) (f g : ℕ → Bool) → ((i : ℕ) → i < N → f i ≡ g i) → fromBits N f ≡ fromBits N g
+unfolding fromBits
+fromBits-same zero f g h = refl
+fromBits-same (suc N) f g h =
+    ap₂ (λ b y. cond b 1 0 + 2 * y) (h 0 (omega arith)) (fromBits-same N (λ i. f (suc i)) (λ i. g (suc i)) (λ i l. h (suc i) (omega arith)))
+
+module _ (W : ℕ) where
+  -- the place of p, q, both below W, is below W·W, in row p and column q
+  place-below : (p q : ℕ) → p < W → q < W → W * p + q < W * W
+  place-below p q hp hq = omega (arith, mul-suc W p, mul-le-mul-left W hp)
+
+  place-row : (p q : ℕ) → q < W → (W * p + q) / W ≡ p
+  place-row p q h = let d = div-eq-of-lt h in omega (arith, mul-add-div {m = W} (omega arith) p q)
+
+  place-column : (p q : ℕ) → q < W → (W * p + q) % W ≡ q
+  place-column p q h = mul-add-mod-self-left W p q ∙ mod-eq-of-lt h
+
+  -- a number packed by rows has the bits it was packed from
+  pub cell-grid : (f : ℕ → ℕ → Bool) (p q : ℕ) → p < W → q < W → cell W (grid W f) p q ≡ f p q
+  unfolding cell grid
+  cell-grid f p q hp hq =
+      bit-fromBits (W * W) (λ i. f (i / W) (i % W)) (W * p + q) (place-below p q hp hq) ∙ ap₂ f (place-row p q hq) (place-column p q hq)
+
+  -- and is below 2^(W·W)
+  pub grid-below : (f : ℕ → ℕ → Bool) → grid W f < 2 ^ (W * W)
+  unfolding grid
+  grid-below f = fromBits-below (W * W) (λ i. f (i / W) (i % W))
+
+  -- bits that agree for all p, q below W give one number
+  pub grid-same : (f g : ℕ → ℕ → Bool) → ((p q : ℕ) → p < W → q < W → f p q ≡ g p q) → grid W f ≡ grid W g
+  unfolding grid
+  grid-same f g h =
+      fromBits-same (W * W) (λ i. f (i / W) (i % W)) (λ i. g (i / W) (i % W)) (λ i l. h (i / W) (i % W) (div-lt-iff-lt-mul (some-row i l) .1 l) (mod-lt i (some-row i l)))
+    where
+      some-row : (i : ℕ) → i < W * W → zero < W
+      some-row i l = go W l
+        where
+          go : (W : ℕ) → i < W * W → zero < W
+          go zero l = absurd (omega arith)
+          go (suc W) l = omega arith

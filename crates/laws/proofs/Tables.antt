@@ -1,0 +1,84 @@
+-- The tables as a whole, for any kind of value. A table made with a room is the first part of the one that holds all values, cut exactly if
+-- there are more than room; and where values have codes below a bound, there is such a table, with no more entries than the bound.
+use Prim.Native.Nat.{ℕ, zero, suc, _<_, _≤_}
+use native.Mathlib.Omega.{arith}
+use mathlib.Core.Path.{_≡_, refl, sym, ap, _∙_, subst}
+use mathlib.Core.Bool.{Bool, true, false}
+use mathlib.Core.Logic.{_⊎_, inl, inr, ⊎-elim}
+use mathlib.Core.List.{List, [], _∷_}
+use mathlib.Core.Option.{Option, none, some}
+use lib.ListN.{length, getElem?}
+use lib.Dec.{ltb}
+use borrow.Author.Tests.{ltb-true, ltb-false}
+use Rattle.laws.specs.Bits.{placeOf}
+use Rattle.laws.specs.Words.{Word, lettersBelow}
+use Rattle.laws.specs.Tables.{WordValue, Entry, Holds, Table, UpTo, made}
+use Rattle.laws.specs.Profiles.{values}
+use Rattle.laws.proofs.Booleans.{either, inside}
+use Rattle.laws.proofs.Pigeonhole.{pigeonhole}
+use Rattle.laws.proofs.Places.{place-below, element}
+use Rattle.laws.proofs.Members.{member, placed}
+use Rattle.laws.proofs.Steps.{Steps}
+use Rattle.laws.proofs.Values.{found}
+use Rattle.laws.proofs.Listed.{Listed}
+use Rattle.laws.proofs.Making.{More, more-listed}
+use Rattle.laws.proofs.Room.{room-first}
+use Rattle.laws.proofs.Made.{made-holds, made-cut}
+use Rattle.laws.proofs.Unique.{same-entries}
+
+-- codes below a bound that tell the values of words over k events apart
+pub record Codes {Value : Type 0} (Val : WordValue Value) (k bound : ℕ) : Type 0 where
+  pub code : Value → ℕ
+  pub below : (w : Word) (x : Value) → lettersBelow k w ≡ true → Val .of w ≡ some x → code x < bound
+  pub apart : (v w : Word) (x y : Value) → lettersBelow k v ≡ true → lettersBelow k w ≡ true → Val .of v ≡ some x → Val .of w ≡ some y → code x ≡ code y → x ≡ y
+
+module _ {Value : Type 0} {Val : WordValue Value} {k : ℕ} where
+  -- there are no more values than codes
+  not-more : {bound : ℕ} → Codes Val k bound → More Val k bound → ⊥
+  not-more {bound = bound} c m =
+      let (i, j, l, j-in, same) = pigeonhole bound (λ i. c .code (m .value i)) (λ i h. c .below (m .word i) (m .value i) (m .letters i h) (m .has i h)) in
+      let i-in : i ≤ bound = omega arith in
+      let equal = c .apart (m .word i) (m .word j) (m .value i) (m .value j) (m .letters i i-in) (m .letters j j-in) (m .has i i-in) (m .has j j-in) same in
+      omega (arith, m .differ i j i-in j-in equal)
+
+  -- so no more entries
+  pub few : {bound : ℕ} {es : List (Entry Value)} → Codes Val k bound → Holds Val k es → length es ≤ bound
+  few {bound = bound} {es = es} c h =
+      ⊎-elim (λ l. absurd (not-more c (more (ltb-true bound (length es) l)))) (λ l. ltb-false bound (length es) l) (either (ltb bound (length es)))
+    where
+      listed : Listed Val k es (h .word)
+      listed = record { letters = h .word-letters; has = h .word-value; once = h .once; ordered = h .ordered; came = h .came }
+
+      more : bound < length es → More Val k bound
+      more l = more-listed bound (element es bound l .0) listed l
+
+  module _ (steps : Steps Val) where
+    -- a table with room for every code is not cut, so it holds all values
+    whole : {bound : ℕ} → Codes Val k bound → made Val k bound .cut ≡ false
+    whole {bound = bound} c = ⊎-elim (λ e. absurd (not-more c (made-cut steps k bound e))) (λ e. e) (either (made Val k bound .cut))
+
+    pub enough : {bound : ℕ} → Codes Val k bound → Holds Val k (made Val k bound .entries)
+    enough {bound = bound} c = made-holds steps k bound (whole c)
+
+    module _ (complete : List (Entry Value)) (h : Holds Val k complete) where
+      -- where entries hold all values, the place of a value is its code
+      places : Codes Val k (length (values complete))
+      places =
+          record {
+            code = place;
+            below = λ w x l v. place-below (values complete) (place x) (at w x l v);
+            apart = λ v w x y lv lw hx hy same. inside (sym (at v x lv hx) ∙ ap (getElem? (values complete)) same ∙ at w y lw hy);
+          }
+        where
+          place : Value → ℕ
+          place x = placeOf (Val .same x) (values complete)
+
+          at : (w : Word) (x : Value) → lettersBelow k w ≡ true → Val .of w ≡ some x → getElem? (values complete) (place x) ≡ some x
+          at w x l v = placed (Val .same x) (values complete) (steps .equal-same x) (steps .same-equal x) (member (values complete) (found complete h w x l v))
+
+      -- A TABLE MADE WITH A ROOM is the first part of it, cut exactly if there is more
+      pub up-to : (room : ℕ) → UpTo room complete (made Val k room)
+      up-to room =
+          let R : ℕ = length (values complete) in
+          subst (λ (es : List (Entry Value)). UpTo room es (made Val k room)) (same-entries (made Val k R .entries) complete (enough places) h)
+          (room-first Val k room R (whole places))
