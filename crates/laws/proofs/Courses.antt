@@ -4,13 +4,13 @@ use Prim.Native.Nat.{ℕ, zero, suc, _≤_, _<_}
 use native.Mathlib.Omega.{arith}
 use mathlib.Core.Path.{_≡_, refl, sym, ap, ap₂, _∙_}
 use mathlib.Core.Bool.{Bool, true, false, _&&_, _||_, false≢true, and-eq-true-iff}
-use mathlib.Core.List.{List, [], _∷_, _++_}
+use mathlib.Core.List.{List, [], _∷_}
 use lib.ListN.{getD}
 use lib.Dec.{ltb}
 use borrow.Author.Tests.{ltb-true}
 use Rattle.laws.specs.Bits.{cell}
-use Rattle.laws.specs.Words.{Word, power}
-use Rattle.laws.specs.Model.{Machine, Path, stop, step, homed, Accepted, isState, leads, machine}
+use Rattle.laws.specs.Words.{power}
+use Rattle.laws.specs.Model.{Path, stop, step, homed, Accepted, isState, leads, machine}
 use Rattle.laws.specs.Profiles.{markedPath}
 use Rattle.laws.specs.Opposite.{written}
 use Rattle.laws.specs.HandWorked.{C, E}

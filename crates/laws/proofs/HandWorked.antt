@@ -11,7 +11,6 @@ use Rattle.laws.specs.Model.{Model, eight, machine}
 use Rattle.laws.specs.Tables.{Entry, noEntry, noEvent}
 use Rattle.laws.specs.Profiles.{Profile, values, setValue, profileOf}
 use Rattle.laws.specs.Opposite.{Arrow, arrow, sorted, written, opposite}
-use Rattle.laws.specs.Refusals.{Fault}
 use Rattle.laws.specs.File.{fileOf, reading}
 use Rattle.laws.specs.Answers.{closingAnswer, OppositeAnswer, oppositeAnswer}
 use Rattle.laws.specs.HandWorked.{C, D, E, H, Shuttle, Row, rowOf, rows, ownRows}

@@ -1,12 +1,12 @@
 -- The join of two profiles and the image of a set, over any width: a join leads through a state between, it is associative, and the image
 -- under a join is the image of the image.
-use Prim.Native.Nat.{ℕ, zero, suc, _*_, _<_, _^_}
+use Prim.Native.Nat.{ℕ, _*_, _<_, _^_}
 use mathlib.Core.Path.{_≡_, refl, sym, ap, ap₂, _∙_}
 use mathlib.Core.Bool.{Bool, true, false, _&&_, _||_, false≢true}
 use mathlib.Core.Logic.{_⊎_, inl, inr, ⊎-elim}
 use lib.Dec.{eqb}
 use borrow.Author.Tests.{eqb-true, eq-eqb}
-use Rattle.laws.specs.Bits.{bit, fromBits, cell, grid, someBelow}
+use Rattle.laws.specs.Bits.{bit, someBelow}
 use Rattle.laws.specs.Model.{Machine}
 use Rattle.laws.specs.Profiles.{Profile, sameProfile, leadsTo, marked, join, image, after, eventProfile}
 use Rattle.laws.proofs.Booleans.{or-left, or-right, or-cases, both, and-left, and-right, same-test, some-below, below-some, some-same}

@@ -1,6 +1,6 @@
 -- A table in the making that is not cut, with the words of its entries, and what comes of it when an entry with a later word is entered:
 -- it goes on, with the value of that word in it, or it is cut, and there are more values than room.
-use Prim.Native.Nat.{ℕ, suc, _≤_, _<_}
+use Prim.Native.Nat.{ℕ, _≤_, _<_}
 use native.Mathlib.Omega.{arith}
 use mathlib.Core.Path.{_≡_, refl, sym, _∙_, subst}
 use mathlib.Core.Logic.{_⊎_, inl, inr}

@@ -1,23 +1,23 @@
 -- Sets and profiles mean paths, over any width: for one event by its rule, for a word by joins. Of the marks only `round-marked` and
 -- `marked-round` are for use above: they hold at a path from a state back to itself, whichever end of an arrow the rule looks at.
-use Prim.Native.Nat.{ℕ, zero, suc, _+_, _*_, _<_, _≤_, _^_}
+use Prim.Native.Nat.{ℕ, _+_, _<_, _≤_, _^_}
 use native.Mathlib.Omega.{arith}
-use mathlib.Core.Path.{_≡_, refl, sym, ap, ap₂, _∙_, subst}
-use mathlib.Core.Bool.{Bool, true, false, _&&_, _||_, false≢true}
+use mathlib.Core.Path.{_≡_, refl, sym, ap, _∙_, subst}
+use mathlib.Core.Bool.{Bool, true, false, _&&_, false≢true}
 use mathlib.Core.Logic.{_⊎_, inl, inr, ⊎-elim}
-use mathlib.Core.List.{List, [], _∷_, _++_, append-assoc, append-nil}
+use mathlib.Core.List.{[], _∷_, _++_, append-assoc, append-nil}
 use mathlib.Core.Option.{Option, none, some}
 use lib.ListN.{getD}
 use lib.Dec.{ltb}
 use borrow.Author.Tests.{ltb-true, ltb-false}
-use Rattle.laws.specs.Bits.{bit, fromBits, cell, someBelow}
+use Rattle.laws.specs.Bits.{bit, cell, someBelow}
 use Rattle.laws.specs.Words.{Word, empty}
 use Rattle.laws.specs.Model.{Machine, Path, stop, step, homed, Model, isState, leads, machine, Within}
-use Rattle.laws.specs.Profiles.{Profile, leadsTo, marked, join, image, markedPath, startSet, after, setFrom, setOf, SetMeans, eventProfile, nextProfile, profileFrom, profileOf, ProfileMeans}
+use Rattle.laws.specs.Profiles.{Profile, marked, join, image, markedPath, startSet, after, setFrom, setOf, SetMeans, eventProfile, nextProfile, profileFrom, profileOf, ProfileMeans}
 use Rattle.laws.proofs.Booleans.{or-left, or-right, or-cases, both, and-left, and-right, either, some-below, below-some, inside, not-nothing}
 use Rattle.laws.proofs.Packing.{bit-fromBits, fromBits-below, bit-beyond}
 use Rattle.laws.proofs.Joins.{Via, join-leads, leads-via, join-marks, marks-via, join-assoc, image-join, leads-event, marked-event, after-event}
-use Rattle.laws.proofs.Paths.{then, Cut, cut, HomePath, first-home}
+use Rattle.laws.proofs.Paths.{then, cut, HomePath, first-home}
 
 -- the states of a model with at most W states are below W
 pub machine-within : (W : ℕ) (m : Model) → m .n ≤ W → Within W (machine W m)

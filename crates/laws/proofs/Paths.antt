@@ -1,9 +1,8 @@
 -- Paths of any machine: one behind the other, cut in two, and the home states on them.
-use Prim.Native.Nat.{ℕ, zero, suc}
-use mathlib.Core.Path.{_≡_, refl, sym, ap, _∙_, subst}
-use mathlib.Core.Bool.{Bool, true, false, _||_}
-use mathlib.Core.Logic.{_⊎_, inl, inr, ⊎-elim}
-use mathlib.Core.List.{List, [], _∷_, _++_}
+use mathlib.Core.Path.{_≡_, refl, ap}
+use mathlib.Core.Bool.{true}
+use mathlib.Core.Logic.{_⊎_, ⊎-elim}
+use mathlib.Core.List.{[], _∷_, _++_}
 use Rattle.laws.specs.Words.{Word}
 use Rattle.laws.specs.Model.{Machine, Path, stop, step, homed}
 use Rattle.laws.proofs.Booleans.{or-left, or-right, or-cases}

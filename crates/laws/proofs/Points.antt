@@ -1,11 +1,11 @@
 -- The opposite machine by what its states stand for: a set, or in the block of t a profile x, the gate where there is none yet.
 -- `Leads` says which of these lead to which; `Stands` says which number stands for which; `number` gives the first such number.
-use Prim.Native.Nat.{ℕ, zero, suc, _<_}
+use Prim.Native.Nat.{ℕ, _<_}
 use mathlib.Core.Path.{_≡_}
-use mathlib.Core.Bool.{Bool, true, false}
-use mathlib.Core.List.{List, [], _∷_, _++_}
+use mathlib.Core.Bool.{true}
+use mathlib.Core.List.{List, [], _∷_}
 use mathlib.Core.Option.{Option, none, some}
-use lib.ListN.{length, getElem?}
+use lib.ListN.{getElem?}
 use lib.Dec.{eqb}
 use Rattle.laws.specs.Bits.{placeOf}
 use Rattle.laws.specs.Words.{Word}

@@ -3,12 +3,12 @@
 use Prim.Native.Nat.{ℕ, zero, suc, _+_, _≤_, _<_}
 use native.Mathlib.Omega.{arith}
 use mathlib.Core.Path.{_≡_, refl, sym, _∙_}
-use mathlib.Core.Bool.{true, false≢true}
+use mathlib.Core.Bool.{false≢true}
 use mathlib.Core.List.{List, [], _∷_, _++_}
 use mathlib.Core.Option.{none, some}
 use lib.ListN.{length, getElem?}
 use borrow.Author.Tests.{eq-eqb, ne-eqb}
-use Rattle.laws.specs.Words.{Word, lettersBelow}
+use Rattle.laws.specs.Words.{lettersBelow}
 use Rattle.laws.specs.Tables.{WordValue, Entry, noEntry, noEvent, Came, empty-word, one-event, one-more, Holds, rebuilt, wordOf}
 use Rattle.laws.proofs.Order.{neither-before, none-before-empty, letters-less}
 use Rattle.laws.proofs.Places.{place-below, element, length-one-more}

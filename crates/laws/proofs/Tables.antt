@@ -1,18 +1,18 @@
 -- The tables as a whole, for any kind of value. A table made with a room is the first part of the one that holds all values, cut exactly if
 -- there are more than room; and where values have codes below a bound, there is such a table, with no more entries than the bound.
-use Prim.Native.Nat.{ℕ, zero, suc, _<_, _≤_}
+use Prim.Native.Nat.{ℕ, _<_, _≤_}
 use native.Mathlib.Omega.{arith}
-use mathlib.Core.Path.{_≡_, refl, sym, ap, _∙_, subst}
-use mathlib.Core.Bool.{Bool, true, false}
-use mathlib.Core.Logic.{_⊎_, inl, inr, ⊎-elim}
-use mathlib.Core.List.{List, [], _∷_}
-use mathlib.Core.Option.{Option, none, some}
+use mathlib.Core.Path.{_≡_, sym, ap, _∙_, subst}
+use mathlib.Core.Bool.{true, false}
+use mathlib.Core.Logic.{_⊎_, ⊎-elim}
+use mathlib.Core.List.{List}
+use mathlib.Core.Option.{some}
 use lib.ListN.{length, getElem?}
 use lib.Dec.{ltb}
 use borrow.Author.Tests.{ltb-true, ltb-false}
 use Rattle.laws.specs.Bits.{placeOf}
 use Rattle.laws.specs.Words.{Word, lettersBelow}
-use Rattle.laws.specs.Tables.{WordValue, Entry, Holds, Table, UpTo, made}
+use Rattle.laws.specs.Tables.{WordValue, Entry, Holds, UpTo, made}
 use Rattle.laws.specs.Profiles.{values}
 use Rattle.laws.proofs.Booleans.{either, inside}
 use Rattle.laws.proofs.Pigeonhole.{pigeonhole}

@@ -1,19 +1,19 @@
 -- THE THEOREMS, to be held beside demands 2 and 3. W is the number of states of the kind of model and k the number of events; nothing here
 -- knows how many they are, and nothing is assumed. The line under a statement names what proves it, and the `use` lines where that stands.
-use Prim.Native.Nat.{ℕ, suc, _*_, _^_, _<_, _≤_}
+use Prim.Native.Nat.{ℕ, _*_, _^_, _<_, _≤_}
 use native.Mathlib.Omega.{arith}
 use mathlib.Core.Path.{_≡_, refl, sym, ap₂, _∙_}
 use mathlib.Core.Bool.{true, false}
 use mathlib.Core.Logic.{_↔_}
 use mathlib.Core.List.{List, [], _++_}
-use mathlib.Core.Option.{none, some}
+use mathlib.Core.Option.{some}
 use lib.ListN.{length, getElem?}
 use Rattle.laws.specs.Words.{Word, power, empty}
 use Rattle.laws.specs.Model.{Machine, Path, homed, Model, machine, Within}
 use Rattle.laws.specs.Tables.{WordValue, Entry, noEntry, noEvent, Holds, Table, UpTo, made, wordOf}
 use Rattle.laws.specs.Profiles.{Profile, values, join, image, marked, SetMeans, setOf, ProfileMeans, profileOf, setValue, profileValue}
-use Rattle.laws.specs.Profiles.{HoldsSets, HoldsProfiles, setTable, profileTable, verdict, RightVerdict}
-use Rattle.laws.specs.Opposite.{Arrow, sorted, blockProfiles, flags, stateCount, arrows, arrowCount, opposite, Opposed}
+use Rattle.laws.specs.Profiles.{HoldsSets, HoldsProfiles, verdict, RightVerdict}
+use Rattle.laws.specs.Opposite.{sorted, blockProfiles, flags, stateCount, arrows, arrowCount, opposite, Opposed}
 use Rattle.laws.proofs.Places.{place-below}
 use Rattle.laws.proofs.Joins.{join-assoc}
 use Rattle.laws.proofs.Meaning.{machine-within, set-means, profile-means, marked-round, round-marked, has-profile, profile-has, profile-of-two, set-of-two}
@@ -28,7 +28,7 @@ use Rattle.laws.proofs.Complete.{set-steps, profile-steps, set-codes, p
 use Rattle.laws.proofs.Verdicts.{verdict-right}
 use Rattle.laws.proofs.Exactly.{opposed}
 use Rattle.laws.proofs.Sorted.{arrows-sorted}
-use Rattle.laws.proofs.Counts.{arrows-counted, states-counted, arrows-inside}
+use Rattle.laws.proofs.Counts.{arrows-counted, states-counted}
 
 -- All that follows is of a machine with states below W. So is every model with at most W states.
 pub every-model : (W : ℕ) (m : Model) → m .n ≤ W → Within W (machine W m)

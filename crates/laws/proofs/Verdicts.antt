@@ -3,21 +3,19 @@
 use Prim.Native.Nat.{ℕ, zero, suc, _+_, _<_, _≤_}
 use native.Mathlib.Omega.{arith}
 use native.Mathlib.Nat.{zero-add}
-use mathlib.Core.Path.{_≡_, refl, sym, ap, ap₂, _∙_, subst}
-use mathlib.Core.Bool.{Bool, true, false, false≢true}
-use mathlib.Core.Logic.{_⊎_, inl, inr, ⊎-elim}
+use mathlib.Core.Path.{_≡_, refl, sym, ap, _∙_, subst}
+use mathlib.Core.Bool.{Bool, true, false}
 use mathlib.Core.List.{List, [], _∷_, _++_}
 use mathlib.Core.Option.{Option, none, some}
 use lib.ListN.{length, getElem?}
-use Rattle.laws.specs.Words.{Word, power, lettersBelow, empty}
+use Rattle.laws.specs.Words.{Word, power}
 use Rattle.laws.specs.Model.{Machine, Accepted, Course, Within}
 use Rattle.laws.specs.Tables.{Entry, noEntry, noEvent, wordOf}
-use Rattle.laws.specs.Profiles.{Profile, values, Verdict, covered, uncovered, RightVerdict, isRejecting, rejectingWith, firstRejecting, verdict, setOf, profileFrom, profileOf, setValue, profileValue, HoldsSets, HoldsProfiles}
-use Rattle.laws.proofs.Places.{In}
+use Rattle.laws.specs.Profiles.{Profile, values, Verdict, covered, uncovered, RightVerdict, isRejecting, rejectingWith, firstRejecting, verdict, setOf, profileOf, setValue, profileValue, HoldsSets, HoldsProfiles}
 use Rattle.laws.proofs.Booleans.{inside, not-nothing}
 use Rattle.laws.proofs.Order.{letters-join, letters-power}
 use Rattle.laws.proofs.Meaning.{profile-has}
-use Rattle.laws.proofs.Rounds.{Settled, settled, accepts, rejects}
+use Rattle.laws.proofs.Rounds.{settled, accepts, rejects}
 use Rattle.laws.proofs.Rebuilt.{rebuilt-word}
 use Rattle.laws.proofs.Values.{entry-at}
 use Rattle.laws.proofs.Complete.{sets-found, profiles-found}

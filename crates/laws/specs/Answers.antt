@@ -3,7 +3,7 @@
 use Prim.Native.Nat.{ℕ, zero, suc, min}
 use mathlib.Core.Path.{_≡_}
 use mathlib.Core.Bool.{Bool, true, false, _||_}
-use mathlib.Core.List.{List, [], _∷_, _++_, map}
+use mathlib.Core.List.{List, [], _++_, map}
 use mathlib.Core.Option.{Option, none, some}
 use lib.ListN.{length, drop}
 use lib.Dec.{ltb}
@@ -12,7 +12,7 @@ use Rattle.laws.specs.Model.{Machine, Kind, Model, machine, Accepted}
 use Rattle.laws.specs.Tables.{Entry, Table}
 use Rattle.laws.specs.Profiles.{Profile, Verdict, covered, uncovered, values, verdict, setTable, profileTable}
 use Rattle.laws.specs.Opposite.{Arrow, blockProfiles, arrows, flags, stateCount, arrowCount}
-use Rattle.laws.specs.Refusals.{Fault, firstOf, modelChecks, courseChecks}
+use Rattle.laws.specs.Refusals.{firstOf, modelChecks, courseChecks}
 use Rattle.laws.specs.File.{Reading}
 
 -- the slices lent for sets, for profiles, and for the opposite

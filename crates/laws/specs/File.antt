@@ -1,7 +1,7 @@
 -- Document 01, "The model file": the exact bytes of a model, and what a reader finds in any bytes: the model, or the first fault with
 -- its offset. This is the file of the first kind, in which a mask is one byte.
 use Prim.Native.Nat.{ℕ, zero, suc, _+_, _*_, _/_, _%_}
-use mathlib.Core.Bool.{Bool, true, false, not, _&&_}
+use mathlib.Core.Bool.{Bool, true, not, _&&_}
 use mathlib.Core.List.{List, [], _∷_, _++_, map}
 use lib.ListN.{length, getD, take, drop}
 use lib.Dec.{eqb, ltb, leb}

@@ -1,8 +1,8 @@
 -- Document 01, "The opposite machine": its states, accepting flags and sorted arrows, document 01's counts of both, and the machine
 -- that written flags and arrows are. W, M and k are the model's; Ps and ts are the values of its two complete tables, the sets and the
 -- profiles; bs are the profiles that have a block.
-use Prim.Native.Nat.{ℕ, zero, suc, _+_, _*_}
-use mathlib.Core.Bool.{Bool, true, false, not, _&&_, _||_, cond}
+use Prim.Native.Nat.{ℕ, _+_, _*_}
+use mathlib.Core.Bool.{Bool, true, not, _&&_, _||_, cond}
 use mathlib.Core.Logic.{_⊎_}
 use mathlib.Core.List.{List, [], _∷_, _++_, map}
 use lib.ListN.{length, getD, replicate}

@@ -1,6 +1,6 @@
 -- Document 01, "Sets and profiles": the set and the profile of a word and what they mean, the join, fitting and rejecting pairs, the
 -- two tables, and the verdict. W is the number of states of the kind of model.
-use Prim.Native.Nat.{ℕ, zero, suc, _<_}
+use Prim.Native.Nat.{ℕ, suc, _<_}
 use mathlib.Core.Path.{_≡_}
 use mathlib.Core.Bool.{Bool, true, false, not, _&&_, _||_}
 use mathlib.Core.List.{List, [], _∷_, map}

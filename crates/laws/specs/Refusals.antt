@@ -1,6 +1,6 @@
 -- Document 01, "Numbers given back": how the first refusal is found, and what is refused of a model (1, 2, 3) and of one course (10, 9).
 -- 4 to 7 and what the answers hold stand in Answers, the file's faults in File.
-use Prim.Native.Nat.{ℕ, zero, suc, _*_, _^_}
+use Prim.Native.Nat.{ℕ, _*_, _^_}
 use mathlib.Core.Bool.{Bool, true, false, not, _&&_, _||_}
 use mathlib.Core.List.{List, [], _∷_, _++_}
 use lib.ListN.{length, take}
