@@ -5,6 +5,7 @@ use mathlib.Core.Path.{_≡_, refl, ap, _∙_, subst}
 use mathlib.Core.Bool.{true}
 use mathlib.Core.List.{List, [], _∷_}
 use mathlib.Core.Option.{none, some}
+use lib.ListN.{getElem?}
 use borrow.Author.Tests.{eqb-true, eq-eqb}
 use Rattle.laws.specs.Words.{Word, lettersBelow}
 use Rattle.laws.specs.Model.{Machine}
@@ -21,7 +22,13 @@ use Rattle.laws.proofs.Steps.{Steps}
 use Rattle.laws.proofs.Rebuilt.{empty-first}
 use Rattle.laws.proofs.Values.{value-at, found, found-next}
 use Rattle.laws.proofs.Tables.{Codes}
-use Rattle.laws.proofs.Points.{Closed}
+
+-- what the opposite needs of two lists: the first set is the start set, and every next set, event's profile and next profile is there
+pub record Closed (W : ℕ) (M : Machine ℕ) (k : ℕ) (Ps : List ℕ) (ts : List Profile) : Type 0 where
+  pub start-first : getElem? Ps 0 ≡ some (startSet W M)
+  pub next-set : (P a : ℕ) → In P Ps → a < k → In (after W M P a) Ps
+  pub one-event : (a : ℕ) → a < k → In (eventProfile W M a) ts
+  pub next-one : (x : Profile) (a : ℕ) → In x ts → a < k → In (join W x (eventProfile W M a)) ts
 
 module _ (W : ℕ) (M : Machine ℕ) where
   -- sets, and profiles, are values as closing asks for them

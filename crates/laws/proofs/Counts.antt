@@ -12,7 +12,7 @@ use Rattle.laws.specs.Model.{Machine}
 use Rattle.laws.specs.Profiles.{Profile, sameProfile, join, eventProfile}
 use Rattle.laws.specs.Opposite.{Arrow, rejectsNonEmpty, gate, inBlock, onto, blockProfiles, pairCount, flags, stateCount}
 use Rattle.laws.specs.Opposite.{fromSet, fromGate, fromState, fromBlock, secondCount, arrows, arrowCount}
-use Rattle.laws.proofs.Points.{Closed}
+use Rattle.laws.proofs.Complete.{Closed}
 use Rattle.laws.proofs.Members.{member-some, length-counted}
 use Rattle.laws.proofs.Numbered.{drawn, stands-below}
 

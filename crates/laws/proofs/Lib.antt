@@ -1,8 +1,12 @@
+-- facts shown by computing
 pub mod Computed
 pub mod HandWorked
 pub mod Courses
 pub mod Edges
 pub mod Files
+-- the theorems, and below them what proves each
+pub mod Theorems
+-- tests, lists, bits, words and numbers
 pub mod Booleans
 pub mod Places
 pub mod Members
@@ -10,14 +14,14 @@ pub mod Packing
 pub mod Order
 pub mod Pigeonhole
 pub mod Powers
+-- 1. sets and profiles mean paths
 pub mod Paths
 pub mod Joins
 pub mod Meaning
+-- 2. idempotent power
 pub mod Idempotent
-pub mod Rounds
-pub mod Lassos
+-- 3. closing, and 6. one result only
 pub mod Steps
-pub mod Values
 pub mod Entering
 pub mod Room
 pub mod Listed
@@ -26,13 +30,17 @@ pub mod Closing
 pub mod Made
 pub mod Unique
 pub mod Rebuilt
+pub mod Values
 pub mod Tables
-pub mod Points
 pub mod Complete
+-- 4. the verdict
+pub mod Rounds
 pub mod Verdicts
-pub mod Numbered
+-- 5. the opposite
+pub mod Lassos
+pub mod Points
 pub mod Blocks
-pub mod Exactly
+pub mod Numbered
+pub mod Opposites
 pub mod Sorted
 pub mod Counts
-pub mod Theorems

@@ -2,7 +2,7 @@
 -- `marked-round` are for use above: they hold at a path from a state back to itself, whichever end of an arrow the rule looks at.
 use Prim.Native.Nat.{ℕ, _+_, _<_, _≤_, _^_}
 use native.Mathlib.Omega.{arith}
-use mathlib.Core.Path.{_≡_, refl, sym, ap, _∙_, subst}
+use mathlib.Core.Path.{_≡_, refl, sym, ap, ap₂, _∙_, subst}
 use mathlib.Core.Bool.{Bool, true, false, _&&_, false≢true}
 use mathlib.Core.Logic.{_⊎_, inl, inr, ⊎-elim}
 use mathlib.Core.List.{[], _∷_, _++_, append-assoc, append-nil}
@@ -13,10 +13,10 @@ use borrow.Author.Tests.{ltb-true, ltb-false}
 use Rattle.laws.specs.Bits.{bit, cell, someBelow}
 use Rattle.laws.specs.Words.{Word, empty}
 use Rattle.laws.specs.Model.{Machine, Path, stop, step, homed, Model, isState, leads, machine, Within}
-use Rattle.laws.specs.Profiles.{Profile, marked, join, image, markedPath, startSet, after, setFrom, setOf, SetMeans, eventProfile, nextProfile, profileFrom, profileOf, ProfileMeans}
-use Rattle.laws.proofs.Booleans.{or-left, or-right, or-cases, both, and-left, and-right, either, some-below, below-some, inside, not-nothing}
-use Rattle.laws.proofs.Packing.{bit-fromBits, fromBits-below, bit-beyond}
-use Rattle.laws.proofs.Joins.{Via, join-leads, leads-via, join-marks, marks-via, join-assoc, image-join, leads-event, marked-event, after-event}
+use Rattle.laws.specs.Profiles.{Profile, leadsTo, marked, join, image, markedPath, startSet, after, setFrom, setOf, SetMeans, eventProfile, nextProfile, profileFrom, profileOf, ProfileMeans}
+use Rattle.laws.proofs.Booleans.{or-left, or-right, or-cases, both, and-left, and-right, same-test, either, some-below, below-some, inside, not-nothing}
+use Rattle.laws.proofs.Packing.{bit-fromBits, fromBits-below, bit-beyond, same-bits, same-cells}
+use Rattle.laws.proofs.Joins.{Small, Via, join-leads, leads-via, join-marks, marks-via, join-assoc, image-join, leads-event, marked-event, after-event}
 use Rattle.laws.proofs.Paths.{then, cut, HomePath, first-home}
 
 -- the states of a model with at most W states are below W
@@ -249,3 +249,22 @@ module _ (W : ℕ) (M : Machine ℕ) where
               let s = set-only-reached (startSet W M) (fromBits-below W (M .start)) w q b in
               (s .0, sym (bit-fromBits W (M .start) (s .0) (in-below (startSet W M) (s .0) (fromBits-below W (M .start)) (s .1))) ∙ s .1, s .2);
         }
+
+  -- no second number means the same paths: neither for a set
+  pub one-set : (w : Word) (P Q : ℕ) → P < 2 ^ W → Q < 2 ^ W → SetMeans W M w P → SetMeans W M w Q → P ≡ Q
+  one-set w P Q hP hQ p q = same-bits W P Q hP hQ (λ i l. same-test (there P Q p q i) (there Q P q p i))
+    where
+      there : (P Q : ℕ) → SetMeans W M w P → SetMeans W M w Q → (i : ℕ) → bit P i ≡ true → bit Q i ≡ true
+      there P Q p q i b = let s = p .only-reached i b in q .reached (s .0) i (s .1) (s .2)
+
+  -- nor two numbers for a profile
+  pub one-profile : (w : Word) (s t : Profile) → Small W s → Small W t → ProfileMeans W M w s → ProfileMeans W M w t → s ≡ t
+  unfolding leadsTo marked
+  one-profile w s t hs ht S T =
+      ap₂ (λ x y. record { arrows = x; marks = y })
+      (same-cells W (s .arrows) (t .arrows) (hs .arrows-below) (ht .arrows-below) (λ p q hp hq. same-test
+      (λ l. T .path p q hp hq (S .only-path p q hp hq l))
+      (λ l. S .path p q hp hq (T .only-path p q hp hq l))))
+      (same-cells W (s .marks) (t .marks) (hs .marks-below) (ht .marks-below) (λ p q hp hq. same-test
+      (λ l. let r = S .only-marked-path p q hp hq l in T .marked-path p q hp hq (r .0) (r .1))
+      (λ l. let r = T .only-marked-path p q hp hq l in S .marked-path p q hp hq (r .0) (r .1))))

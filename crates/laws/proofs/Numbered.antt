@@ -22,7 +22,8 @@ use Rattle.laws.specs.Opposite.{blockProfiles, flags, stateCount, fromSe
 use Rattle.laws.proofs.Booleans.{both, and-left, and-right, not-nothing}
 use Rattle.laws.proofs.Places.{In, place-below}
 use Rattle.laws.proofs.Joins.{same-equal, equal-same}
-use Rattle.laws.proofs.Points.{Point, at-set, at-block, Leads, set-on, set-enters, block-on, block-back, Closed}
+use Rattle.laws.proofs.Complete.{Closed}
+use Rattle.laws.proofs.Points.{Point, at-set, at-block, Leads, set-on, set-enters, block-on, block-back}
 use Rattle.laws.proofs.Points.{Stands, set-at, gate-at, state-at, Found, set-found, gate-found, state-found, number}
 use Rattle.laws.proofs.Members.{member, stands-in, some-member, member-some, kept, only, placed}
 use Rattle.laws.proofs.Members.{gathered, into-gathered, each, into-each, gathered-each, into-gathered-each}

@@ -1,8 +1,8 @@
 -- Numbers as bits, over any width: the number with given bits has them and no others, and a number is given by its bits.
 use Prim.Native.Nat.{ℕ, zero, suc, _+_, _*_, _/_, _%_, _^_, _<_, _≤_}
 use native.Mathlib.Omega.{arith}
-use native.Mathlib.Nat.{pow-succ', div-one, div-div-eq-div-mul, mul-suc, mul-le-mul-left, mul-add-div, div-eq-of-lt, mul-add-mod-self-left, mod-eq-of-lt, div-lt-iff-lt-mul, mod-lt}
-use mathlib.Core.Path.{_≡_, refl, sym, ap, ap₂, _∙_}
+use native.Mathlib.Nat.{pow-succ', div-one, div-div-eq-div-mul, mul-suc, mul-le-mul-left, mul-add-div, div-eq-of-lt, mul-add-mod-self-left, mod-eq-of-lt, div-lt-iff-lt-mul, mod-lt, div-add-mod}
+use mathlib.Core.Path.{_≡_, refl, sym, ap, ap₂, _∙_, subst}
 use mathlib.Core.Bool.{Bool, true, false, cond}
 use lib.Dec.{eqb}
 use borrow.Author.Tests.{eqb-true, eqb-false, eq-eqb, ne-eqb}
@@ -103,15 +103,29 @@ module _ (W : ℕ) where
   unfolding grid
   grid-below f = fromBits-below (W * W) (λ i. f (i / W) (i % W))
 
+  -- a place below W·W has a row and a column below W
+  some-row : (i : ℕ) → i < W * W → zero < W
+  some-row i l = go W l
+    where
+      go : (W : ℕ) → i < W * W → zero < W
+      go zero l = absurd (omega arith)
+      go (suc W) l = omega arith
+
+  row-below : (i : ℕ) → i < W * W → i / W < W
+  row-below i l = div-lt-iff-lt-mul (some-row i l) .1 l
+
+  column-below : (i : ℕ) → i < W * W → i % W < W
+  column-below i l = mod-lt i (some-row i l)
+
   -- bits that agree for all p, q below W give one number
   pub grid-same : (f g : ℕ → ℕ → Bool) → ((p q : ℕ) → p < W → q < W → f p q ≡ g p q) → grid W f ≡ grid W g
   unfolding grid
   grid-same f g h =
-      fromBits-same (W * W) (λ i. f (i / W) (i % W)) (λ i. g (i / W) (i % W)) (λ i l. h (i / W) (i % W) (div-lt-iff-lt-mul (some-row i l) .1 l) (mod-lt i (some-row i l)))
-    where
-      some-row : (i : ℕ) → i < W * W → zero < W
-      some-row i l = go W l
-        where
-          go : (W : ℕ) → i < W * W → zero < W
-          go zero l = absurd (omega arith)
-          go (suc W) l = omega arith
+      fromBits-same (W * W) (λ i. f (i / W) (i % W)) (λ i. g (i / W) (i % W)) (λ i l. h (i / W) (i % W) (row-below i l) (column-below i l))
+
+  -- and two numbers below 2^(W·W) with the same bits for all p, q below W are equal
+  pub same-cells : (x y : ℕ) → x < 2 ^ (W * W) → y < 2 ^ (W * W) → ((p q : ℕ) → p < W → q < W → cell W x p q ≡ cell W y p q) → x ≡ y
+  unfolding cell
+  same-cells x y hx hy h =
+      same-bits (W * W) x y hx hy
+      (λ i l. subst (λ j. bit x j ≡ bit y j) (div-add-mod i W) (h (i / W) (i % W) (row-below i l) (column-below i l)))

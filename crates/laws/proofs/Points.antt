@@ -1,6 +1,6 @@
 -- The opposite machine by what its states stand for: a set, or in the block of t a profile x, the gate where there is none yet.
 -- `Leads` says which of these lead to which; `Stands` says which number stands for which; `number` gives the first such number.
-use Prim.Native.Nat.{ℕ, _<_}
+use Prim.Native.Nat.{ℕ}
 use mathlib.Core.Path.{_≡_}
 use mathlib.Core.Bool.{true}
 use mathlib.Core.List.{List, [], _∷_}
@@ -10,7 +10,7 @@ use lib.Dec.{eqb}
 use Rattle.laws.specs.Bits.{placeOf}
 use Rattle.laws.specs.Words.{Word}
 use Rattle.laws.specs.Model.{Machine}
-use Rattle.laws.specs.Profiles.{Profile, sameProfile, join, startSet, after, eventProfile, nextProfile}
+use Rattle.laws.specs.Profiles.{Profile, sameProfile, after, eventProfile, nextProfile}
 use Rattle.laws.specs.Opposite.{rejectsNonEmpty, gate, inBlock}
 use Rattle.laws.proofs.Places.{In}
 
@@ -34,13 +34,6 @@ pub data Leads (W : ℕ) (M : Machine ℕ) (bs : List Profile) : Point → ℕ �
 pub data Way (W : ℕ) (M : Machine ℕ) (bs : List Profile) : Point → Word → Point → Type 0 where
   here : {s : Point} → Way W M bs s [] s
   on : {s r q : Point} {a : ℕ} {w : Word} → Leads W M bs s a r → Way W M bs r w q → Way W M bs s (a ∷ w) q
-
--- what the two tables give: the first set is the start set, and every next set, event's profile and next profile is there
-pub record Closed (W : ℕ) (M : Machine ℕ) (k : ℕ) (Ps : List ℕ) (ts : List Profile) : Type 0 where
-  pub start-first : getElem? Ps 0 ≡ some (startSet W M)
-  pub next-set : (P a : ℕ) → In P Ps → a < k → In (after W M P a) Ps
-  pub one-event : (a : ℕ) → a < k → In (eventProfile W M a) ts
-  pub next-one : (x : Profile) (a : ℕ) → In x ts → a < k → In (join W x (eventProfile W M a)) ts
 
 module _ (Ps : List ℕ) (ts bs : List Profile) where
   -- number p stands for the point

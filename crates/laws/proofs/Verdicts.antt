@@ -11,7 +11,7 @@ use lib.ListN.{length, getElem?}
 use Rattle.laws.specs.Words.{Word, power}
 use Rattle.laws.specs.Model.{Machine, Accepted, Course, Within}
 use Rattle.laws.specs.Tables.{Entry, noEntry, noEvent, wordOf}
-use Rattle.laws.specs.Profiles.{Profile, values, Verdict, covered, uncovered, RightVerdict, isRejecting, rejectingWith, firstRejecting, verdict, setOf, profileOf, setValue, profileValue, HoldsSets, HoldsProfiles}
+use Rattle.laws.specs.Profiles.{Profile, values, Verdict, covered, uncovered, RightVerdict, isRejecting, rejectingWith, firstRejecting, verdict, FirstPair, setOf, profileOf, setValue, profileValue, HoldsSets, HoldsProfiles}
 use Rattle.laws.proofs.Booleans.{inside, not-nothing}
 use Rattle.laws.proofs.Order.{letters-join, letters-power}
 use Rattle.laws.proofs.Meaning.{profile-has}
@@ -22,7 +22,7 @@ use Rattle.laws.proofs.Complete.{sets-found, profiles-found}
 
 module _ (W : ℕ) where
   -- no profile of ts rejects with P
-  unfoldable pub NoneWith : ℕ → List Profile → Type 0
+  abbrev NoneWith : ℕ → List Profile → Type 0
   NoneWith P ts = (j : ℕ) (t : Profile) → getElem? ts j ≡ some t → isRejecting W P t ≡ false
 
   -- what the search for one set ends with, the first profile having number n: none rejects, or number j does and none before it
@@ -31,7 +31,7 @@ module _ (W : ℕ) where
     here : (j : ℕ) (t : Profile) → found ≡ some (n + j) → getElem? ts j ≡ some t → isRejecting W P t ≡ true → ((l : ℕ) (s : Profile) → l < j → getElem? ts l ≡ some s → isRejecting W P s ≡ false) → With P ts n found
 
   search : (P : ℕ) (ts : List Profile) (n : ℕ) → With P ts n (rejectingWith W P ts n)
-  unfolding rejectingWith NoneWith
+  unfolding rejectingWith
   search P [] n = nowhere refl (λ j t h. absurd (not-nothing h))
   search P (t ∷ ts) n = go (isRejecting W P t) refl (search P ts (suc n))
     where
@@ -46,20 +46,10 @@ module _ (W : ℕ) where
           here (suc j) s (f ∙ ap (λ m. some m) (omega arith)) at r
           (λ l q h at-l. earlier (λ l s. l < suc j → isRejecting W P s ≡ false) (λ _. e) (λ l s at h. before l s (omega arith) at) l q at-l h)
 
-  -- the first rejecting pair, by set number and then profile number
-  pub record First (Ps : List ℕ) (ts : List Profile) (i j : ℕ) : Type 0 where
-    pub P : ℕ
-    pub t : Profile
-    pub set-at : getElem? Ps i ≡ some P
-    pub profile-at : getElem? ts j ≡ some t
-    pub rejecting : isRejecting W P t ≡ true
-    -- no profile before it rejects with P, and none at all with a set before it
-    pub first-profile : (l : ℕ) (s : Profile) → l < j → getElem? ts l ≡ some s → isRejecting W P s ≡ false
-    pub first-set : (l Q : ℕ) → l < i → getElem? Ps l ≡ some Q → NoneWith Q ts
-
+  -- what the search for a pair ends with, the first set having number n
   data Pairs (Ps : List ℕ) (ts : List Profile) (n : ℕ) (found : Option (ℕ × ℕ)) : Type 0 where
     no-pair : found ≡ none → ((i P : ℕ) → getElem? Ps i ≡ some P → NoneWith P ts) → Pairs Ps ts n found
-    a-pair : (i j : ℕ) → found ≡ some (n + i, j) → First Ps ts i j → Pairs Ps ts n found
+    a-pair : (i j : ℕ) → found ≡ some (n + i, j) → FirstPair W Ps ts i j → Pairs Ps ts n found
 
   pairs : (Ps : List ℕ) (ts : List Profile) (n : ℕ) → Pairs Ps ts n (firstRejecting W Ps ts n)
   unfolding firstRejecting
@@ -75,7 +65,7 @@ module _ (W : ℕ) where
       go (some j) (nowhere f free) rest = absurd (not-nothing (sym f))
       go (some j) (here l t f at r b) rest =
           a-pair 0 j (ap (λ m. some (m, j)) (omega arith))
-          (subst (λ l. First (P ∷ Ps) ts 0 l) (omega (arith, inside f)) (record { P = P; t = t; set-at = refl; profile-at = at; rejecting = r; first-profile = b; first-set = λ l Q h. absurd (omega arith) }))
+          (subst (λ l. FirstPair W (P ∷ Ps) ts 0 l) (omega (arith, inside f)) (record { P = P; t = t; set-at = refl; profile-at = at; rejecting = r; first-profile = b; first-set = λ l Q h. absurd (omega arith) }))
       go none (nowhere f free) (no-pair g rest) = no-pair g (sets (λ l R. NoneWith R ts) free rest)
       go none (nowhere f free) (a-pair i j g p) =
           a-pair (suc i) j (g ∙ ap (λ m. some (m, j)) (omega arith))
@@ -99,10 +89,24 @@ same-u e = cc
 same-v : {u v w x : Word} → uncovered u v ≡ uncovered w x → v ≡ x
 same-v e = cc
 
+-- the pair that is named is the one that was found
+named : {pair : ℕ × ℕ} (i : ℕ) {j : ℕ} → some pair ≡ some (0 + i, j) → (i, j) ≡ pair
+named i {j = j} f = ap (λ n. (n, j)) (sym (zero-add i)) ∙ sym (inside f)
+
+-- U AND V are the words of the first rejecting pair
+pub verdict-first : (W : ℕ) (sets : List (Entry ℕ)) (profiles : List (Entry Profile)) (u v : Word) → verdict W sets profiles ≡ uncovered u v → (i : ℕ) × (j : ℕ) × FirstPair W (values sets) (values profiles) i j × (u ≡ wordOf sets i) × (v ≡ wordOf profiles j)
+unfolding verdict
+verdict-first W sets profiles u v h = go (firstRejecting W (values sets) (values profiles) 0) (pairs W (values sets) (values profiles) 0) h
+  where
+    go : (o : Option (ℕ × ℕ)) → Pairs W (values sets) (values profiles) 0 o → elim o [ none ↦ covered | some pair ↦ uncovered (wordOf sets (pair .0)) (wordOf profiles (pair .1)) ] ≡ uncovered u v → (i : ℕ) × (j : ℕ) × FirstPair W (values sets) (values profiles) i j × (u ≡ wordOf sets i) × (v ≡ wordOf profiles j)
+    go none p h = absurd (apart h)
+    go (some pair) (no-pair f free) h = absurd (not-nothing (sym f))
+    go (some pair) (a-pair i j f first) h =
+        (pair .0, pair .1, subst (λ (o : ℕ × ℕ). FirstPair W (values sets) (values profiles) (o .0) (o .1)) (named i f) first, sym (same-u h), sym (same-v h))
+
 module _ (W : ℕ) (M : Machine ℕ) (within : Within W M) (k : ℕ) (sets : List (Entry ℕ)) (profiles : List (Entry Profile)) (hs : HoldsSets W M k sets) (hp : HoldsProfiles W M k profiles) where
   -- every course is accepted if no pair of the tables rejects
   all-accepted : ((i P : ℕ) → getElem? (values sets) i ≡ some P → NoneWith W P (values profiles)) → (u v : Word) → Course k u v → Accepted M u v
-  unfolding NoneWith
   all-accepted free u v c =
       let s = settled W M u v (c .v-some) in
       let w : Word = power (s .m) v in
@@ -118,7 +122,7 @@ module _ (W : ℕ) (M : Machine ℕ) (within : Within W M) (k : ℕ) (sets : Lis
 
   module _ (few-sets : length sets ≤ noEntry) (few-profiles : length profiles ≤ noEntry) (few-events : k ≤ noEvent) where
     -- the words of a rejecting pair are a course with no accepting run
-    pair-says : (i j : ℕ) → First W (values sets) (values profiles) i j → Says (uncovered (wordOf sets i) (wordOf profiles j))
+    pair-says : (i j : ℕ) → FirstPair W (values sets) (values profiles) i j → Says (uncovered (wordOf sets i) (wordOf profiles j))
     unfolding setValue profileValue
     pair-says i j first =
         let P = entry-at sets i (first .P) (first .set-at) in
@@ -140,7 +144,7 @@ module _ (W : ℕ) (M : Machine ℕ) (within : Within W M) (k : ℕ) (sets : Lis
         go none (a-pair i j f first) = absurd (not-nothing f)
         go (some pair) (no-pair f free) = absurd (not-nothing (sym f))
         go (some pair) (a-pair i j f first) =
-            subst (λ (o : ℕ × ℕ). Says (uncovered (wordOf sets (o .0)) (wordOf profiles (o .1)))) (ap (λ n. (n, j)) (sym (zero-add i)) ∙ sym (inside f)) (pair-says i j first)
+            subst (λ (o : ℕ × ℕ). Says (uncovered (wordOf sets (o .0)) (wordOf profiles (o .1)))) (named i f) (pair-says i j first)
 
     -- THE VERDICT IS RIGHT
     pub verdict-right : RightVerdict M k (verdict W sets profiles)

@@ -5,6 +5,7 @@ use mathlib.Core.Path.{_≡_}
 use mathlib.Core.Bool.{Bool, true, false, not, _&&_, _||_}
 use mathlib.Core.List.{List, [], _∷_, map}
 use mathlib.Core.Option.{Option, none, some}
+use lib.ListN.{getElem?}
 use lib.Dec.{eqb}
 use Rattle.laws.specs.Bits.{bit, fromBits, cell, grid, someBelow}
 use Rattle.laws.specs.Words.{Word}
@@ -65,6 +66,17 @@ module _ (W : ℕ) where
   -- a fitting pair with no state r of P that has a marked r to r in t
   unfoldable pub isRejecting : ℕ → Profile → Bool
   isRejecting P t = isFitting P t && not (someBelow W (λ r. bit P r && marked t r r))
+
+  -- WHAT THE FIRST REJECTING PAIR IS, by set number i and then profile number j
+  pub record FirstPair (Ps : List ℕ) (ts : List Profile) (i j : ℕ) : Type 0 where
+    pub P : ℕ
+    pub t : Profile
+    pub set-at : getElem? Ps i ≡ some P
+    pub profile-at : getElem? ts j ≡ some t
+    pub rejecting : isRejecting P t ≡ true
+    -- no profile before it rejects with P, and none at all with a set before P
+    pub first-profile : (m : ℕ) (s : Profile) → m < j → getElem? ts m ≡ some s → isRejecting P s ≡ false
+    pub first-set : (l Q : ℕ) → l < i → getElem? Ps l ≡ some Q → (m : ℕ) (s : Profile) → getElem? ts m ≡ some s → isRejecting Q s ≡ false
 
   -- the number of the first profile that rejects with P; the first of the list has number j
   unfoldable pub rejectingWith : ℕ → List Profile → ℕ → Option ℕ

@@ -19,11 +19,11 @@ use Rattle.laws.proofs.Booleans.{both, and-left, and-right, either}
 use Rattle.laws.proofs.Order.{letters-join, letters-power}
 use Rattle.laws.proofs.Paths.{then, cut, last-home, at-home}
 use Rattle.laws.proofs.Joins.{image-nothing, after-event}
-use Rattle.laws.proofs.Points.{Point, at-set, at-block, Way, here, on, Closed, Stands, Found, set-found, number}
+use Rattle.laws.proofs.Points.{Point, at-set, at-block, Way, here, on, Stands, Found, set-found, number}
 use Rattle.laws.proofs.Numbered.{Accepting, empty-set, a-gate, has-block, stands-once, found-stands, home-accepting, accepting-home}
 use Rattle.laws.proofs.Numbered.{read-arrow, write-arrow, start-stands, start-number}
 use Rattle.laws.proofs.Meaning.{profile-append, profile-of-two}
-use Rattle.laws.proofs.Complete.{sets-found, profiles-found, closed}
+use Rattle.laws.proofs.Complete.{Closed, sets-found, profiles-found, closed}
 use Rattle.laws.proofs.Rounds.{fits-join, rejecting-fits, Settled, settled, accepts, rejects, no-path}
 use Rattle.laws.proofs.Lassos.{power-add, later, turned}
 use Rattle.laws.proofs.Blocks.{way-then, sets-on, enters, to-gate, gate-round, set-reached, gate-reached}
