@@ -10,7 +10,8 @@ use borrow.Author.Tests.{eqb-true, eq-eqb}
 use Rattle.laws.specs.Words.{Word, lettersBelow}
 use Rattle.laws.specs.Model.{Machine}
 use Rattle.laws.specs.Tables.{Entry}
-use Rattle.laws.specs.Profiles.{Profile, values, join, startSet, after, setFrom, setOf, eventProfile, nextProfile, profileFrom, profileOf, nextSet, setValue, profileValue, HoldsSets, HoldsProfiles}
+use Rattle.laws.specs.Profiles.{Profile, values, join, startSet, after, setFrom, setOf, eventProfile, nextProfile, profileFrom}
+use Rattle.laws.specs.Profiles.{profileOf, nextSet, setValue, profileValue, HoldsSets, HoldsProfiles}
 use Rattle.laws.proofs.Booleans.{inside, not-nothing}
 use Rattle.laws.proofs.Packing.{fromBits-below}
 use Rattle.laws.proofs.Order.{letters-more}

@@ -9,8 +9,10 @@ use borrow.Author.Tests.{eqb-true, eq-eqb}
 use Rattle.laws.specs.Bits.{bit, someBelow}
 use Rattle.laws.specs.Model.{Machine}
 use Rattle.laws.specs.Profiles.{Profile, sameProfile, leadsTo, marked, join, image, after, eventProfile}
-use Rattle.laws.proofs.Booleans.{or-left, or-right, or-cases, both, and-left, and-right, same-test, some-below, below-some, some-same}
-use Rattle.laws.proofs.Packing.{bit-fromBits, fromBits-below, fromBits-same, same-bits, no-bit, positive, cell-grid, grid-same, grid-below}
+use Rattle.laws.proofs.Booleans.{or-left, or-right, or-cases, both, and-left, and-right, same-test, some-below, below-some}
+use Rattle.laws.proofs.Booleans.{some-same}
+use Rattle.laws.proofs.Packing.{bit-fromBits, fromBits-below, fromBits-same, same-bits, no-bit, positive, cell-grid, grid-same}
+use Rattle.laws.proofs.Packing.{grid-below}
 
 -- the test for equal profiles tells exactly equal ones
 pub same-equal : (s t : Profile) → sameProfile s t ≡ true → s ≡ t
@@ -91,7 +93,8 @@ module _ (W : ℕ) where
 
   module _ (r s t : Profile) (p q : ℕ) (hp : p < W) (hq : q < W) where
     -- with the join of the first two at the left, or of the last two at the right, it is the same three
-    from-left : {b c : Bool} (v : Via (join W r s) t p q b) (w : Via r s p (v .r) c) → (b ≡ true → (marked W r p (w .r) ≡ true) ⊎ ((marked W s (w .r) (v .r) ≡ true) ⊎ (marked W t (v .r) q ≡ true))) → Three r s t p q b
+    from-left : {b c : Bool} (v : Via (join W r s) t p q b) (w : Via r s p (v .r) c)
+        → (b ≡ true → (marked W r p (w .r) ≡ true) ⊎ ((marked W s (w .r) (v .r) ≡ true) ⊎ (marked W t (v .r) q ≡ true))) → Three r s t p q b
     from-left v w m =
         record { x = w .r; y = v .r; x-below = w .r-below; y-below = v .r-below; first = w .first; second = w .second; third = v .second; mark = m }
 
@@ -103,7 +106,8 @@ module _ (W : ℕ) where
         (λ m. from-left v (leads-via r s p (v .r) hp (v .r-below) (v .first)) (λ _. inr (inr m)))
         (v .mark refl)
 
-    from-right : {b c : Bool} (v : Via r (join W s t) p q b) (w : Via s t (v .r) q c) → (b ≡ true → (marked W r p (v .r) ≡ true) ⊎ ((marked W s (v .r) (w .r) ≡ true) ⊎ (marked W t (w .r) q ≡ true))) → Three r s t p q b
+    from-right : {b c : Bool} (v : Via r (join W s t) p q b) (w : Via s t (v .r) q c)
+        → (b ≡ true → (marked W r p (v .r) ≡ true) ⊎ ((marked W s (v .r) (w .r) ≡ true) ⊎ (marked W t (w .r) q ≡ true))) → Three r s t p q b
     from-right v w m =
         record { x = v .r; y = w .r; x-below = v .r-below; y-below = w .r-below; first = v .first; second = w .first; third = w .second; mark = m }
 
@@ -142,7 +146,8 @@ module _ (W : ℕ) where
         marks m = join-marks s t (h .x) q (h .x-below) hq (record { r = h .y; r-below = h .y-below; first = h .second; second = h .third; mark = λ _. m })
 
   -- two joins that lead and mark alike are equal
-  join-equal : (s t r u : Profile) → ((p q : ℕ) → p < W → q < W → leadsTo W (join W s t) p q ≡ leadsTo W (join W r u) p q) → ((p q : ℕ) → p < W → q < W → marked W (join W s t) p q ≡ marked W (join W r u) p q) → join W s t ≡ join W r u
+  join-equal : (s t r u : Profile) → ((p q : ℕ) → p < W → q < W → leadsTo W (join W s t) p q ≡ leadsTo W (join W r u) p q)
+      → ((p q : ℕ) → p < W → q < W → marked W (join W s t) p q ≡ marked W (join W r u) p q) → join W s t ≡ join W r u
   unfolding join
   join-equal s t r u a m =
       ap₂ (λ x y. record { arrows = x; marks = y })
@@ -185,7 +190,8 @@ module _ (W : ℕ) where
   pub image-has : (P : ℕ) (t : Profile) (p q : ℕ) → p < W → q < W → bit P p ≡ true → leadsTo W t p q ≡ true → bit (image W P t) q ≡ true
   image-has P t p q hp hq b l = image-bit P t q hq ∙ some-below (λ p. bit P p && leadsTo W t p q) W p hp (both b l)
 
-  pub image-from : (P : ℕ) (t : Profile) (q : ℕ) → q < W → bit (image W P t) q ≡ true → (p : ℕ) × (p < W) × (bit P p ≡ true) × (leadsTo W t p q ≡ true)
+  pub image-from : (P : ℕ) (t : Profile) (q : ℕ) → q < W → bit (image W P t) q ≡ true
+      → (p : ℕ) × (p < W) × (bit P p ≡ true) × (leadsTo W t p q ≡ true)
   image-from P t q h e =
       let b = below-some (λ p. bit P p && leadsTo W t p q) W (sym (image-bit P t q h) ∙ e) in
       (b .0, b .1, and-left (bit P (b .0)) (leadsTo W t (b .0) q) (b .2), and-right (bit P (b .0)) (leadsTo W t (b .0) q) (b .2))

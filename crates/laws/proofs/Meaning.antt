@@ -13,10 +13,13 @@ use borrow.Author.Tests.{ltb-true, ltb-false}
 use Rattle.laws.specs.Bits.{bit, cell, someBelow}
 use Rattle.laws.specs.Words.{Word, empty}
 use Rattle.laws.specs.Model.{Machine, Path, stop, step, homed, Model, isState, leads, machine, Within}
-use Rattle.laws.specs.Profiles.{Profile, leadsTo, marked, join, image, markedPath, startSet, after, setFrom, setOf, SetMeans, eventProfile, nextProfile, profileFrom, profileOf, ProfileMeans}
-use Rattle.laws.proofs.Booleans.{or-left, or-right, or-cases, both, and-left, and-right, same-test, either, some-below, below-some, inside, not-nothing}
+use Rattle.laws.specs.Profiles.{Profile, leadsTo, marked, join, image, markedPath, startSet, after, setFrom, setOf, SetMeans}
+use Rattle.laws.specs.Profiles.{eventProfile, nextProfile, profileFrom, profileOf, ProfileMeans}
+use Rattle.laws.proofs.Booleans.{or-left, or-right, or-cases, both, and-left, and-right, same-test, either, some-below, below-some}
+use Rattle.laws.proofs.Booleans.{inside, not-nothing}
 use Rattle.laws.proofs.Packing.{bit-fromBits, fromBits-below, bit-beyond, same-bits, same-cells}
-use Rattle.laws.proofs.Joins.{Small, Via, join-leads, leads-via, join-marks, marks-via, join-assoc, image-join, leads-event, marked-event, after-event}
+use Rattle.laws.proofs.Joins.{Small, Via, join-leads, leads-via, join-marks, marks-via, join-assoc, image-join, leads-event}
+use Rattle.laws.proofs.Joins.{marked-event, after-event}
 use Rattle.laws.proofs.Paths.{then, cut, HomePath, first-home}
 
 -- the states of a model with at most W states are below W
@@ -37,7 +40,8 @@ machine-within W m h =
 
 module _ {S : Type 0} (M : Machine S) where
   -- a path in two parts is marked exactly if one of them is
-  then-marked : {p q r : S} {x y : Word} (s : Path M p x q) (t : Path M q y r) → (markedPath M s ≡ true) ⊎ (markedPath M t ≡ true) → markedPath M (then M s t) ≡ true
+  then-marked : {p q r : S} {x y : Word} (s : Path M p x q) (t : Path M q y r) → (markedPath M s ≡ true) ⊎ (markedPath M t ≡ true)
+      → markedPath M (then M s t) ≡ true
   unfolding then markedPath
   then-marked stop t h = ⊎-elim (λ f. absurd (false≢true f)) (λ g. g) h
   then-marked (step {r = r} e s) t h =
@@ -46,7 +50,8 @@ module _ {S : Type 0} (M : Machine S) where
       (λ g. or-right (M .home r) (then-marked s t (inr g)))
       h
 
-  cut-marked : (x y : Word) {p q : S} (s : Path M p (x ++ y) q) → markedPath M s ≡ true → (markedPath M (cut M x s .left) ≡ true) ⊎ (markedPath M (cut M x s .right) ≡ true)
+  cut-marked : (x y : Word) {p q : S} (s : Path M p (x ++ y) q) → markedPath M s ≡ true
+      → (markedPath M (cut M x s .left) ≡ true) ⊎ (markedPath M (cut M x s .right) ≡ true)
   unfolding markedPath cut
   cut-marked [] y s h = inr h
   cut-marked (a ∷ x) y (step {r = r} e s) h =
@@ -78,7 +83,8 @@ module _ {S : Type 0} (M : Machine S) where
 
 module _ (W : ℕ) (M : Machine ℕ) where
   -- THE PROFILE OF x·y is the join of those of x and y: first from what was read before, then for two words
-  profile-on : (s t z : Profile) (w : Word) → profileFrom W M (some t) w ≡ some z → profileFrom W M (some (join W s t)) w ≡ some (join W s z)
+  profile-on : (s t z : Profile) (w : Word) → profileFrom W M (some t) w ≡ some z
+      → profileFrom W M (some (join W s t)) w ≡ some (join W s z)
   unfolding profileFrom nextProfile
   profile-on s t z [] h = ap (λ y. some (join W s y)) (inside h)
   profile-on s t z (a ∷ w) h =
@@ -105,7 +111,8 @@ module _ (W : ℕ) (M : Machine ℕ) where
   profile-has [] t h = absurd (not-nothing h)
   profile-has (a ∷ w) t h = refl
 
-  pub profile-of-two : (x y : Word) (s t : Profile) → profileOf W M x ≡ some s → profileOf W M y ≡ some t → profileOf W M (x ++ y) ≡ some (join W s t)
+  pub profile-of-two : (x y : Word) (s t : Profile) → profileOf W M x ≡ some s → profileOf W M y ≡ some t
+      → profileOf W M (x ++ y) ≡ some (join W s t)
   unfolding profileOf profileFrom nextProfile
   profile-of-two x [] s t hx hy = absurd (not-nothing hy)
   profile-of-two x (a ∷ y) s t hx hy =
@@ -184,7 +191,8 @@ module _ (W : ℕ) (M : Machine ℕ) where
               (v .mark refl);
         }
       where
-        via : {b : Bool} (p q : ℕ) → p < W → q < W → (w : Path M p (x ++ y) q) → (b ≡ true → (marked W s p (cut M x w .middle) ≡ true) ⊎ (marked W t (cut M x w .middle) q ≡ true)) → Via W s t p q b
+        via : {b : Bool} (p q : ℕ) → p < W → q < W → (w : Path M p (x ++ y) q)
+            → (b ≡ true → (marked W s p (cut M x w .middle) ≡ true) ⊎ (marked W t (cut M x w .middle) q ≡ true)) → Via W s t p q b
         via p q hp hq w m =
             let c = cut M x w in
             let hr = path-below hp (c .left) in

@@ -12,7 +12,8 @@ use borrow.Author.Tests.{ltb-true, eqb-true, eq-eqb}
 use Rattle.laws.specs.Words.{Word, power, lettersBelow, empty}
 use Rattle.laws.specs.Model.{Machine, Path, stop, step, Accepted, Course, Within}
 use Rattle.laws.specs.Tables.{Entry}
-use Rattle.laws.specs.Profiles.{Profile, values, isRejecting, startSet, setFrom, setOf, eventProfile, profileFrom, profileOf, HoldsSets, HoldsProfiles}
+use Rattle.laws.specs.Profiles.{Profile, values, isRejecting, startSet, setFrom, setOf, eventProfile, profileFrom, profileOf}
+use Rattle.laws.specs.Profiles.{HoldsSets, HoldsProfiles}
 use Rattle.laws.specs.Opposite.{written, rejectsNonEmpty, blockProfiles, arrows, opposite, Opposed}
 use Rattle.laws.proofs.Places.{In}
 use Rattle.laws.proofs.Booleans.{both, and-left, and-right, either}

@@ -1,7 +1,8 @@
 -- Numbers as bits, over any width: the number with given bits has them and no others, and a number is given by its bits.
 use Prim.Native.Nat.{ℕ, zero, suc, _+_, _*_, _/_, _%_, _^_, _<_, _≤_}
 use native.Mathlib.Omega.{arith}
-use native.Mathlib.Nat.{pow-succ', div-one, div-div-eq-div-mul, mul-suc, mul-le-mul-left, mul-add-div, div-eq-of-lt, mul-add-mod-self-left, mod-eq-of-lt, div-lt-iff-lt-mul, mod-lt, div-add-mod}
+use native.Mathlib.Nat.{pow-succ', div-one, div-div-eq-div-mul, mul-suc, mul-le-mul-left, mul-add-div, div-eq-of-lt, mul-add-mod-self-left}
+use native.Mathlib.Nat.{mod-eq-of-lt, div-lt-iff-lt-mul, mod-lt, div-add-mod}
 use mathlib.Core.Path.{_≡_, refl, sym, ap, ap₂, _∙_, subst}
 use mathlib.Core.Bool.{Bool, true, false, cond}
 use lib.Dec.{eqb}

@@ -24,7 +24,8 @@ pub data Leads (W : ℕ) (M : Machine ℕ) (bs : List Profile) : Point → ℕ �
   -- a set to the set after it
   set-on : {P a : ℕ} → Leads W M bs (at-set P) a (at-set (after W M P a))
   -- a set into the block of a profile with which it rejects
-  set-enters : {P a : ℕ} {t : Profile} → In t bs → rejectsNonEmpty W P t ≡ true → Leads W M bs (at-set P) a (at-block t (some (eventProfile W M a)))
+  set-enters : {P a : ℕ} {t : Profile} → In t bs → rejectsNonEmpty W P t ≡ true
+      → Leads W M bs (at-set P) a (at-block t (some (eventProfile W M a)))
   -- in a block, on to the next profile
   block-on : {a : ℕ} {t : Profile} {y : Option Profile} → Leads W M bs (at-block t y) a (at-block t (some (nextProfile W M y a)))
   -- and to the gate where that is t
@@ -40,7 +41,8 @@ module _ (Ps : List ℕ) (ts bs : List Profile) where
   pub data Stands : ℕ → Point → Type 0 where
     set-at : {i P : ℕ} → getElem? Ps i ≡ some P → Stands i (at-set P)
     gate-at : (b : ℕ) {p : ℕ} {t : Profile} → p ≡ gate Ps ts b → getElem? bs b ≡ some t → Stands p (at-block t none)
-    state-at : (b i : ℕ) {p : ℕ} {t x : Profile} → p ≡ inBlock Ps ts b i → getElem? bs b ≡ some t → getElem? ts i ≡ some x → Stands p (at-block t (some x))
+    state-at : (b i : ℕ) {p : ℕ} {t x : Profile} → p ≡ inBlock Ps ts b i → getElem? bs b ≡ some t → getElem? ts i ≡ some x
+        → Stands p (at-block t (some x))
 
   -- the point has a number
   pub data Found : Point → Type 0 where

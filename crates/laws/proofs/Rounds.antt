@@ -11,13 +11,15 @@ use borrow.Author.Tests.{eqb-true, eq-eqb}
 use Rattle.laws.specs.Bits.{bit, someBelow}
 use Rattle.laws.specs.Words.{Word, power, empty}
 use Rattle.laws.specs.Model.{Machine, Path, Accepted, Within}
-use Rattle.laws.specs.Profiles.{Profile, sameProfile, marked, join, image, isFitting, isRejecting, startSet, setFrom, setOf, profileOf}
+use Rattle.laws.specs.Profiles.{Profile, sameProfile, marked, join, image, isFitting, isRejecting, startSet, setFrom, setOf}
+use Rattle.laws.specs.Profiles.{profileOf}
 use Rattle.laws.proofs.Booleans.{both, and-left, and-right, some-below, below-some}
 use Rattle.laws.proofs.Packing.{no-bit}
 use Rattle.laws.proofs.Joins.{same-equal, equal-same, image-join}
 use Rattle.laws.proofs.Powers.{times}
 use Rattle.laws.proofs.Idempotent.{idempotent}
-use Rattle.laws.proofs.Meaning.{path-below, has-profile, profile-of-two, set-append, set-image, set-of-two, set-means, marked-round, round-marked}
+use Rattle.laws.proofs.Meaning.{path-below, has-profile, profile-of-two, set-append, set-image, set-of-two, set-means, marked-round}
+use Rattle.laws.proofs.Meaning.{round-marked}
 
 module _ (W : ℕ) where
   -- a fitting pair: t leads P to P, and t then t is t
@@ -44,7 +46,8 @@ module _ (W : ℕ) where
       false≢true (sym (ap not (some-below (λ r. bit P r && marked W t r r) W r l (both b m))) ∙ and-right (isFitting W P t) (not (someBelow W (λ r. bit P r && marked W t r r))) h)
 
   -- a fitting pair that does not reject has such a state
-  fitting-marked : (P : ℕ) (t : Profile) → isFitting W P t ≡ true → isRejecting W P t ≡ false → (r : ℕ) × (r < W) × (bit P r ≡ true) × (marked W t r r ≡ true)
+  fitting-marked : (P : ℕ) (t : Profile) → isFitting W P t ≡ true → isRejecting W P t ≡ false
+      → (r : ℕ) × (r < W) × (bit P r ≡ true) × (marked W t r r ≡ true)
   unfolding isRejecting
   fitting-marked P t f h =
       let b = below-some (λ r. bit P r && marked W t r r) W (go (isFitting W P t) (someBelow W (λ r. bit P r && marked W t r r)) f h) in
@@ -65,13 +68,15 @@ module _ (W : ℕ) (M : Machine ℕ) where
     pub pair-fits : isFitting W (setOf W M (u ++ power m v)) e ≡ true
 
   -- the profile of v n + 1 times
-  power-profile : (v : Word) (t : Profile) → profileOf W M v ≡ some t → (n : ℕ) → profileOf W M (power (suc n) v) ≡ some (times (join W) n t)
+  power-profile : (v : Word) (t : Profile) → profileOf W M v ≡ some t → (n : ℕ)
+      → profileOf W M (power (suc n) v) ≡ some (times (join W) n t)
   unfolding power times
   power-profile v t h zero = ap (λ w. profileOf W M w) (append-nil v) ∙ h
   power-profile v t h (suc n) = profile-of-two W M v (power (suc n) v) t (times (join W) n t) h (power-profile v t h n)
 
   -- some power of a round, the exponent at least 1, has an idempotent profile
-  pub idempotent-round : (v : Word) → empty v ≡ false → (m : ℕ) × (e : Profile) × (1 ≤ m) × (profileOf W M (power m v) ≡ some e) × (join W e e ≡ e)
+  pub idempotent-round : (v : Word) → empty v ≡ false
+      → (m : ℕ) × (e : Profile) × (1 ≤ m) × (profileOf W M (power m v) ≡ some e) × (join W e e ≡ e)
   idempotent-round v h =
       let t = has-profile W M v h in
       let n = idempotent W (t .0) in
@@ -113,7 +118,8 @@ module _ (W : ℕ) (M : Machine ℕ) where
     sets-stay P v t p h (suc i) = set-append W M P v (power i v) ∙ ap (λ Q. setFrom W M Q (power i v)) (set-image W M P v t p ∙ h) ∙ sets-stay P v t p h i
 
     -- and the profile of every power of v is t if t then t is t
-    profiles-stay : (v : Word) (t : Profile) → profileOf W M v ≡ some t → join W t t ≡ t → (j : ℕ) → 1 ≤ j → profileOf W M (power j v) ≡ some t
+    profiles-stay : (v : Word) (t : Profile) → profileOf W M v ≡ some t → join W t t ≡ t → (j : ℕ) → 1 ≤ j
+        → profileOf W M (power j v) ≡ some t
     unfolding power
     profiles-stay v t p i zero h = absurd (omega arith)
     profiles-stay v t p i (suc zero) h = ap (λ w. profileOf W M w) (append-nil v) ∙ p

@@ -30,7 +30,8 @@ use Rattle.laws.proofs.Unique.{same-entries}
 pub record Codes {Value : Type 0} (Val : WordValue Value) (k bound : ℕ) : Type 0 where
   pub code : Value → ℕ
   pub below : (w : Word) (x : Value) → lettersBelow k w ≡ true → Val .of w ≡ some x → code x < bound
-  pub apart : (v w : Word) (x y : Value) → lettersBelow k v ≡ true → lettersBelow k w ≡ true → Val .of v ≡ some x → Val .of w ≡ some y → code x ≡ code y → x ≡ y
+  pub apart : (v w : Word) (x y : Value) → lettersBelow k v ≡ true → lettersBelow k w ≡ true → Val .of v ≡ some x → Val .of w ≡ some y
+      → code x ≡ code y → x ≡ y
 
 module _ {Value : Type 0} {Val : WordValue Value} {k : ℕ} where
   -- there are no more values than codes

@@ -11,7 +11,8 @@ use lib.ListN.{length, getElem?}
 use Rattle.laws.specs.Words.{Word, power, empty}
 use Rattle.laws.specs.Model.{Machine, Path, homed, Accepted, Course, Model, machine, Within}
 use Rattle.laws.specs.Tables.{WordValue, Entry, noEntry, noEvent, Holds, Table, UpTo, made, wordOf}
-use Rattle.laws.specs.Profiles.{Profile, values, marked, join, image, setOf, SetMeans, profileOf, ProfileMeans, setValue, profileValue}
+use Rattle.laws.specs.Profiles.{Profile, values, marked, join, image, setOf, SetMeans, profileOf, ProfileMeans, setValue}
+use Rattle.laws.specs.Profiles.{profileValue}
 use Rattle.laws.specs.Profiles.{HoldsSets, HoldsProfiles, Verdict, covered, uncovered, RightVerdict, FirstPair, verdict}
 use Rattle.laws.specs.Opposite.{Arrow, sorted, blockProfiles, flags, stateCount, arrows, arrowCount, opposite, Opposed}
 use Rattle.laws.proofs.Places.{place-below}

@@ -22,7 +22,8 @@ module _ {Value : Type 0} where
   value-at (f ∷ es) zero e h = ap (λ e. some (e .value)) (inside h)
   value-at (f ∷ es) (suc i) e h = value-at es i e h
 
-  pub entry-at : (es : List (Entry Value)) (i : ℕ) (x : Value) → getElem? (values es) i ≡ some x → (e : Entry Value) × (getElem? es i ≡ some e) × (e .value ≡ x)
+  pub entry-at : (es : List (Entry Value)) (i : ℕ) (x : Value) → getElem? (values es) i ≡ some x
+      → (e : Entry Value) × (getElem? es i ≡ some e) × (e .value ≡ x)
   unfolding values
   entry-at [] i x h = absurd (not-nothing h)
   entry-at (f ∷ es) zero x h = (f, refl, inside h)

@@ -11,7 +11,9 @@ use lib.ListN.{length, getElem?}
 use Rattle.laws.specs.Words.{Word, power}
 use Rattle.laws.specs.Model.{Machine, Accepted, Course, Within}
 use Rattle.laws.specs.Tables.{Entry, noEntry, noEvent, wordOf}
-use Rattle.laws.specs.Profiles.{Profile, values, Verdict, covered, uncovered, RightVerdict, isRejecting, rejectingWith, firstRejecting, verdict, FirstPair, setOf, profileOf, setValue, profileValue, HoldsSets, HoldsProfiles}
+use Rattle.laws.specs.Profiles.{Profile, values, Verdict, covered, uncovered, RightVerdict, isRejecting, rejectingWith}
+use Rattle.laws.specs.Profiles.{firstRejecting, verdict, FirstPair, setOf, profileOf, setValue, profileValue, HoldsSets}
+use Rattle.laws.specs.Profiles.{HoldsProfiles}
 use Rattle.laws.proofs.Booleans.{inside, not-nothing}
 use Rattle.laws.proofs.Order.{letters-join, letters-power}
 use Rattle.laws.proofs.Meaning.{profile-has}
@@ -28,18 +30,21 @@ module _ (W : ℕ) where
   -- what the search for one set ends with, the first profile having number n: none rejects, or number j does and none before it
   data With (P : ℕ) (ts : List Profile) (n : ℕ) (found : Option ℕ) : Type 0 where
     nowhere : found ≡ none → NoneWith P ts → With P ts n found
-    here : (j : ℕ) (t : Profile) → found ≡ some (n + j) → getElem? ts j ≡ some t → isRejecting W P t ≡ true → ((l : ℕ) (s : Profile) → l < j → getElem? ts l ≡ some s → isRejecting W P s ≡ false) → With P ts n found
+    here : (j : ℕ) (t : Profile) → found ≡ some (n + j) → getElem? ts j ≡ some t → isRejecting W P t ≡ true
+        → ((l : ℕ) (s : Profile) → l < j → getElem? ts l ≡ some s → isRejecting W P s ≡ false) → With P ts n found
 
   search : (P : ℕ) (ts : List Profile) (n : ℕ) → With P ts n (rejectingWith W P ts n)
   unfolding rejectingWith
   search P [] n = nowhere refl (λ j t h. absurd (not-nothing h))
   search P (t ∷ ts) n = go (isRejecting W P t) refl (search P ts (suc n))
     where
-      earlier : (Q : ℕ → Profile → Type 0) → Q 0 t → ((l : ℕ) (s : Profile) → getElem? ts l ≡ some s → Q (suc l) s) → (l : ℕ) (s : Profile) → getElem? (t ∷ ts) l ≡ some s → Q l s
+      earlier : (Q : ℕ → Profile → Type 0) → Q 0 t → ((l : ℕ) (s : Profile) → getElem? ts l ≡ some s → Q (suc l) s) → (l : ℕ) (s : Profile)
+          → getElem? (t ∷ ts) l ≡ some s → Q l s
       earlier Q z r zero s h = subst (λ s. Q 0 s) (inside h) z
       earlier Q z r (suc l) s h = r l s h
 
-      go : (b : Bool) → isRejecting W P t ≡ b → With P ts (suc n) (rejectingWith W P ts (suc n)) → With P (t ∷ ts) n (elim b [ true ↦ some n | false ↦ rejectingWith W P ts (suc n) ])
+      go : (b : Bool) → isRejecting W P t ≡ b → With P ts (suc n) (rejectingWith W P ts (suc n))
+          → With P (t ∷ ts) n (elim b [ true ↦ some n | false ↦ rejectingWith W P ts (suc n) ])
       go true e rest = here 0 t (ap (λ m. some m) (omega arith)) refl e (λ l s h. absurd (omega arith))
       go false e (nowhere f none-of) = nowhere f (earlier (λ l s. isRejecting W P s ≡ false) e none-of)
       go false e (here j s f at r before) =
@@ -56,11 +61,13 @@ module _ (W : ℕ) where
   pairs [] ts n = no-pair refl (λ i P h. absurd (not-nothing h))
   pairs (P ∷ Ps) ts n = go (rejectingWith W P ts 0) (search P ts 0) (pairs Ps ts (suc n))
     where
-      sets : (Q : ℕ → ℕ → Type 0) → Q 0 P → ((l R : ℕ) → getElem? Ps l ≡ some R → Q (suc l) R) → (l R : ℕ) → getElem? (P ∷ Ps) l ≡ some R → Q l R
+      sets : (Q : ℕ → ℕ → Type 0) → Q 0 P → ((l R : ℕ) → getElem? Ps l ≡ some R → Q (suc l) R) → (l R : ℕ) → getElem? (P ∷ Ps) l ≡ some R
+          → Q l R
       sets Q z r zero R h = subst (λ R. Q 0 R) (inside h) z
       sets Q z r (suc l) R h = r l R h
 
-      go : (o : Option ℕ) → With P ts 0 o → Pairs Ps ts (suc n) (firstRejecting W Ps ts (suc n)) → Pairs (P ∷ Ps) ts n (elim o [ some j ↦ some (n, j) | none ↦ firstRejecting W Ps ts (suc n) ])
+      go : (o : Option ℕ) → With P ts 0 o → Pairs Ps ts (suc n) (firstRejecting W Ps ts (suc n))
+          → Pairs (P ∷ Ps) ts n (elim o [ some j ↦ some (n, j) | none ↦ firstRejecting W Ps ts (suc n) ])
       go none (here j t f at r b) rest = absurd (not-nothing f)
       go (some j) (nowhere f free) rest = absurd (not-nothing (sym f))
       go (some j) (here l t f at r b) rest =
@@ -94,11 +101,14 @@ named : {pair : ℕ × ℕ} (i : ℕ) {j : ℕ} → some pair ≡ some (0 + i, j
 named i {j = j} f = ap (λ n. (n, j)) (sym (zero-add i)) ∙ sym (inside f)
 
 -- U AND V are the words of the first rejecting pair
-pub verdict-first : (W : ℕ) (sets : List (Entry ℕ)) (profiles : List (Entry Profile)) (u v : Word) → verdict W sets profiles ≡ uncovered u v → (i : ℕ) × (j : ℕ) × FirstPair W (values sets) (values profiles) i j × (u ≡ wordOf sets i) × (v ≡ wordOf profiles j)
+pub verdict-first : (W : ℕ) (sets : List (Entry ℕ)) (profiles : List (Entry Profile)) (u v : Word) → verdict W sets profiles ≡ uncovered u v
+    → (i : ℕ) × (j : ℕ) × FirstPair W (values sets) (values profiles) i j × (u ≡ wordOf sets i) × (v ≡ wordOf profiles j)
 unfolding verdict
 verdict-first W sets profiles u v h = go (firstRejecting W (values sets) (values profiles) 0) (pairs W (values sets) (values profiles) 0) h
   where
-    go : (o : Option (ℕ × ℕ)) → Pairs W (values sets) (values profiles) 0 o → elim o [ none ↦ covered | some pair ↦ uncovered (wordOf sets (pair .0)) (wordOf profiles (pair .1)) ] ≡ uncovered u v → (i : ℕ) × (j : ℕ) × FirstPair W (values sets) (values profiles) i j × (u ≡ wordOf sets i) × (v ≡ wordOf profiles j)
+    go : (o : Option (ℕ × ℕ)) → Pairs W (values sets) (values profiles) 0 o
+        → elim o [ none ↦ covered | some pair ↦ uncovered (wordOf sets (pair .0)) (wordOf profiles (pair .1)) ] ≡ uncovered u v
+        → (i : ℕ) × (j : ℕ) × FirstPair W (values sets) (values profiles) i j × (u ≡ wordOf sets i) × (v ≡ wordOf profiles j)
     go none p h = absurd (apart h)
     go (some pair) (no-pair f free) h = absurd (not-nothing (sym f))
     go (some pair) (a-pair i j f first) h =
@@ -106,7 +116,8 @@ verdict-first W sets profiles u v h = go (firstRejecting W (values sets) (values
 
 module _ (W : ℕ) (M : Machine ℕ) (within : Within W M) (k : ℕ) (sets : List (Entry ℕ)) (profiles : List (Entry Profile)) (hs : HoldsSets W M k sets) (hp : HoldsProfiles W M k profiles) where
   -- every course is accepted if no pair of the tables rejects
-  all-accepted : ((i P : ℕ) → getElem? (values sets) i ≡ some P → NoneWith W P (values profiles)) → (u v : Word) → Course k u v → Accepted M u v
+  all-accepted : ((i P : ℕ) → getElem? (values sets) i ≡ some P → NoneWith W P (values profiles)) → (u v : Word) → Course k u v
+      → Accepted M u v
   all-accepted free u v c =
       let s = settled W M u v (c .v-some) in
       let w : Word = power (s .m) v in
@@ -139,7 +150,8 @@ module _ (W : ℕ) (M : Machine ℕ) (within : Within W M) (k : ℕ) (sets : Lis
     unfolding verdict
     says = go (firstRejecting W (values sets) (values profiles) 0) (pairs W (values sets) (values profiles) 0)
       where
-        go : (o : Option (ℕ × ℕ)) → Pairs W (values sets) (values profiles) 0 o → Says (elim o [ none ↦ covered | some pair ↦ uncovered (wordOf sets (pair .0)) (wordOf profiles (pair .1)) ])
+        go : (o : Option (ℕ × ℕ)) → Pairs W (values sets) (values profiles) 0 o
+            → Says (elim o [ none ↦ covered | some pair ↦ uncovered (wordOf sets (pair .0)) (wordOf profiles (pair .1)) ])
         go none (no-pair f free) = says-covered (all-accepted free)
         go none (a-pair i j f first) = absurd (not-nothing f)
         go (some pair) (no-pair f free) = absurd (not-nothing (sym f))
