@@ -56,10 +56,10 @@ unfolding computed profileIs
 e-profiles = refl
 
 -- the tables of E, entry by entry
-set : ℕ → ℕ → ℕ → Entry ℕ
+unfoldable pub set : ℕ → ℕ → ℕ → Entry ℕ
 set P from event = record { value = P; from = from; event = event }
 
-profile : ℕ → ℕ → ℕ → ℕ → Entry Profile
+unfoldable pub profile : ℕ → ℕ → ℕ → ℕ → Entry Profile
 profile arrows marks from event = record { value = record { arrows = arrows; marks = marks }; from = from; event = event }
 
 e-tables : closingAnswer eight E 256 2048 ≡ record {
@@ -75,10 +75,10 @@ opposing : Model → OppositeAnswer
 opposing m = oppositeAnswer eight m 256 2048 65535 65535
 
 -- C's tables
-c-set-entries : List (Entry ℕ)
+unfoldable pub c-set-entries : List (Entry ℕ)
 c-set-entries = set 1 noEntry noEvent ∷ set 2 0 0 ∷ []
 
-c-profile-entries : List (Entry Profile)
+unfoldable pub c-profile-entries : List (Entry Profile)
 c-profile-entries = profile 514 514 noEntry 0 ∷ profile 257 0 noEntry 1 ∷ profile 257 257 0 1 ∷ []
 
 -- C's opposite has 6 states, of which only 2 accepts, and 16 arrows

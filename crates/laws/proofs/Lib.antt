@@ -6,6 +6,7 @@ pub mod Edges
 pub mod Files
 -- the theorems, and below them what proves each
 pub mod Theorems
+pub mod Applied
 -- tests, lists, bits, words and numbers
 pub mod Booleans
 pub mod Places

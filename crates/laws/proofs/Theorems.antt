@@ -24,6 +24,7 @@ use Rattle.laws.proofs.Powers.{times}
 use Rattle.laws.proofs.Idempotent.{idempotent}
 use Rattle.laws.proofs.Rounds.{idempotent-round}
 use Rattle.laws.proofs.Steps.{Steps}
+use Rattle.laws.proofs.Made.{made-holds}
 use Rattle.laws.proofs.Rebuilt.{rebuilt-word, word-short, word-shorter}
 use Rattle.laws.proofs.Unique.{same-entries}
 use Rattle.laws.proofs.Tables.{Codes, few, enough, up-to}
@@ -83,17 +84,24 @@ module _ (W : ℕ) (M : Machine ℕ) where
   some-repeat = idempotent-round W M
 
 -- 3. CLOSING: some table holds all values, with no more entries than bound; the table made with a room is that one up to the room, cut
--- exactly if there are more
+-- exactly if there are more; so a table that is not cut holds all values
 pub record Closes {Value : Type 0} (Val : WordValue Value) (k bound : ℕ) : Type 0 where
   pub complete : List (Entry Value)
   pub holds : Holds Val k complete
   pub up-to-room : (room : ℕ) → UpTo room complete (made Val k room)
+  pub uncut : (room : ℕ) → made Val k room .cut ≡ false → Holds Val k (made Val k room .entries)
   pub at-most : length complete ≤ bound
 
 closes : {Value : Type 0} {Val : WordValue Value} {k bound : ℕ} → Steps Val → Codes Val k bound → Closes Val k bound
 closes {Val = Val} {k = k} {bound = bound} s c =
     let h = enough s c in
-    record { complete = made Val k bound .entries; holds = h; up-to-room = up-to s (made Val k bound .entries) h; at-most = few c h }
+    record {
+      complete = made Val k bound .entries;
+      holds = h;
+      up-to-room = up-to s (made Val k bound .entries) h;
+      uncut = made-holds s k;
+      at-most = few c h;
+    }
 
 module _ (W : ℕ) (M : Machine ℕ) (k : ℕ) where
   -- there are at most 2^W sets, and finitely many profiles
