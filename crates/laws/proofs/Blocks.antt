@@ -107,8 +107,8 @@ module _ (W : ℕ) (M : Machine ℕ) (bs : List Profile) where
       let p = has-profile W M w n in
       ⊎-elim (λ e. absurd (not-nothing (sym e ∙ p .1))) (λ e. e) (inside-gate (inside-way none h (inside nothing) s))
 
-  -- what the set Q of a word says of a point that a way reading it reaches: it is Q; or it is in the block of a t with which some P rejects,
-  -- and what was read in the block leads P to Q
+  -- what the set Q of a word says of a point that a way reading it reaches: it is Q; or it is in the block of a t with which some P
+  -- rejects, and what was read in the block leads P to Q
   data Tells (Q : ℕ) : Point → Type 0 where
     the-set : Tells Q (at-set Q)
     the-block : (P : ℕ) {t z : Profile} {s : Point} → rejectsNonEmpty W P t ≡ true → Inside t (some z) s → Q ≡ image W P z → Tells Q s

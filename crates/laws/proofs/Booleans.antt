@@ -36,6 +36,10 @@ same-test {a = true} f g = sym (f refl)
 same-test {a = false} {b = true} f g = g refl
 same-test {a = false} {b = false} f g = refl
 
+-- a test that fails does not hold
+pub never : {A : Type 0} → false ≡ true → A
+never e = absurd (false≢true e)
+
 -- a test holds or does not
 pub either : (a : Bool) → (a ≡ true) ⊎ (a ≡ false)
 either true = inl refl
@@ -53,13 +57,23 @@ module _ (f : ℕ → Bool) where
   pub some-below : (n i : ℕ) → i < n → f i ≡ true → someBelow n f ≡ true
   unfolding someBelow
   some-below zero i h e = absurd (omega arith)
-  some-below (suc n) i h e = ⊎-elim (λ l. or-left (f n) (some-below n i l e)) (λ s. or-right (someBelow n f) (ap f (sym s) ∙ e)) (less i n h)
+  some-below (suc n) i h e =
+      ⊎-elim (λ l. or-left (f n) (some-below n i l e)) (λ s. or-right (someBelow n f) (ap f (sym s) ∙ e)) (less i n h)
 
   pub below-some : (n : ℕ) → someBelow n f ≡ true → (i : ℕ) × (i < n) × (f i ≡ true)
   unfolding someBelow
   below-some zero e = absurd (false≢true e)
   below-some (suc n) e =
-      ⊎-elim (λ l. let s = below-some n l in (s .0, omega (arith, s .1), s .2)) (λ r. (n, omega arith, r)) (or-cases (someBelow n f) (f n) e)
+      ⊎-elim
+      (λ l. let (i, h, t) = below-some n l in (i, omega arith, t))
+      (λ r. (n, omega arith, r))
+      (or-cases (someBelow n f) (f n) e)
+
+-- where two tests hold of some number below n, each of them does
+pub below-both : (f g : ℕ → Bool) (n : ℕ) → someBelow n (λ i. f i && g i) ≡ true → (i : ℕ) × (i < n) × (f i ≡ true) × (g i ≡ true)
+below-both f g n e =
+    let (i, h, t) = below-some (λ i. f i && g i) n e in
+    (i, h, and-left (f i) (g i) t, and-right (f i) (g i) t)
 
 -- tests that agree below n hold of some number below n at the same time
 pub some-same : (n : ℕ) (f g : ℕ → Bool) → ((i : ℕ) → i < n → f i ≡ g i) → someBelow n f ≡ someBelow n g

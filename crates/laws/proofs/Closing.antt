@@ -9,11 +9,10 @@ use mathlib.Core.List.{[], _∷_, _++_}
 use mathlib.Core.Option.{Option, none, some}
 use lib.ListN.{length, getElem?}
 use Rattle.laws.specs.Words.{Word, lettersBelow, before}
-use Rattle.laws.specs.Tables.{WordValue, Entry, Table, Came, one-event, one-more, noEntry, enter, byEvents, byEntries}
+use Rattle.laws.specs.Tables.{WordValue, Entry, Table, Came, one-event, one-more, noEntry, enter, byEvents, byEntries, Steps}
 use Rattle.laws.proofs.Booleans.{less, inside}
 use Rattle.laws.proofs.Places.{place-below, past-end, end-past}
 use Rattle.laws.proofs.Order.{before-then, more-before, event-before, letters-more}
-use Rattle.laws.proofs.Steps.{Steps}
 use Rattle.laws.proofs.Entering.{cut-same, events-still, entries-end, entries-on, entries-still}
 use Rattle.laws.proofs.Listed.{put, put-new, put-old, Next}
 use Rattle.laws.proofs.Making.{Making, Found, Low, Tried, Outcome, over, on, entering}

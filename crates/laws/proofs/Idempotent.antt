@@ -4,9 +4,10 @@ use Prim.Native.Nat.{ℕ, _+_, _*_, _/_, _<_, _^_}
 use native.Mathlib.Omega.{arith}
 use native.Mathlib.Nat.{mul-suc, mul-le-mul-left, mul-add-div, div-eq-of-lt}
 use mathlib.Core.Path.{_≡_, sym, ap, ap₂, _∙_}
+use Rattle.laws.specs.Bits.{times}
 use Rattle.laws.specs.Profiles.{Profile, join}
 use Rattle.laws.proofs.Joins.{Small, join-small, join-assoc}
-use Rattle.laws.proofs.Powers.{times, idempotent-power}
+use Rattle.laws.proofs.Powers.{idempotent-power}
 
 module _ (W : ℕ) where
   -- the marks above, the arrows below
@@ -14,8 +15,11 @@ module _ (W : ℕ) where
   code t = 2 ^ (W * W) * t .marks + t .arrows
 
   -- what stands above is the quotient
-  split : (B m a : ℕ) → a < B → (B * m + a) / B ≡ m
-  split B m a h = let d = div-eq-of-lt h in omega (arith, mul-add-div {m = B} (omega arith) m a)
+  marks-above : (t : Profile) → Small W t → code t / 2 ^ (W * W) ≡ t .marks
+  unfolding code
+  marks-above t small =
+      let d = div-eq-of-lt (small .arrows-below) in
+      omega (arith, mul-add-div {m = 2 ^ (W * W)} (omega arith) (t .marks) (t .arrows))
 
   -- a small profile's number is below the bound
   pub code-below : (t : Profile) → Small W t → code t < 2 ^ (W * W) * 2 ^ (W * W)
@@ -26,7 +30,7 @@ module _ (W : ℕ) where
   pub code-apart : (s t : Profile) → Small W s → Small W t → code s ≡ code t → s ≡ t
   unfolding code
   code-apart s t small-s small-t h =
-      let m : s .marks ≡ t .marks = sym (split (2 ^ (W * W)) (s .marks) (s .arrows) (small-s .arrows-below)) ∙ ap (λ x. x / 2 ^ (W * W)) h ∙ split (2 ^ (W * W)) (t .marks) (t .arrows) (small-t .arrows-below) in
+      let m : s .marks ≡ t .marks = sym (marks-above s small-s) ∙ ap (λ x. x / 2 ^ (W * W)) h ∙ marks-above t small-t in
       let e : s .arrows ≡ t .arrows = omega (arith, ap (λ x. 2 ^ (W * W) * x) m) in
       ap₂ (λ x y. record { arrows = x; marks = y }) e m
 

@@ -1,5 +1,5 @@
--- Lassos of any machine: a path from a start state, and a round with a home state behind it. Rounds are turned, repeated and moved along, so
--- what is accepted as (u, v) is accepted at every later start, with v repeated and with v turned.
+-- Lassos of any machine: a path from a start state, and a round with a home state behind it. Rounds are turned, repeated and moved along,
+-- so what is accepted as (u, v) is accepted at every later start, with v repeated and with v turned.
 use Prim.Native.Nat.{ℕ, zero, suc, _+_, _*_, _≤_}
 use native.Mathlib.Omega.{arith}
 use native.Mathlib.Nat.{zero-add, suc-add, zero-mul, suc-mul, mul-suc, mul-comm}
@@ -104,12 +104,13 @@ module _ {S : Type 0} (M : Machine S) where
       rest zero s = stop
       rest (suc j) s = then M s (rest j s)
 
-  -- a course is accepted by a lasso that reads u and then v i times, and n + 1 times v in its round
+  -- a lasso that reads u and then v i times, and n + 1 times v in its round
   record Laps (u v : Word) : Type 0 where
     i : ℕ
     n : ℕ
     lasso : Lasso (u ++ power i v) (power (suc n) v)
 
+  -- a course is accepted exactly if it has one
   laps-of : {u v : Word} → Accepted M u v → Laps u v
   laps-of {u = u} {v = v} a = go (a .j) (a .j-from-1) (record { path = a .round; home = a .round-homed })
     where
@@ -139,14 +140,8 @@ module _ {S : Type 0} (M : Machine S) where
       let l = laps-of a in
       let d : ℕ = i + l .i * j in
       let e : l .i + d ≡ i + l .i * suc j = omega (arith, mul-suc (l .i) j) in
-      let powers : power (l .i) v ++ power d v ≡ power i v ++ power (l .i) (power (suc j) v) =
-      sym (power-add (l .i) d v)
-      ∙ ap (λ n. power n v) e
-      ∙ power-add i (l .i * suc j) v
-      ∙ ap (λ w. power i v ++ w) (sym (power-times (l .i) (suc j) v))
-      in
       let words : (u ++ power (l .i) v) ++ power d v ≡ (u ++ power i v) ++ power (l .i) (power (suc j) v) =
-      append-assoc u (power (l .i) v) (power d v) ∙ ap (λ w. u ++ w) powers ∙ sym (append-assoc u (power i v) (power (l .i) (power (suc j) v)))
+      simp append-assoc (rw (power-times, ← power-add (l .i) d v, ← power-add i (l .i * suc j) v, e))
       in
       laps-accept (record {
         i = l .i;
@@ -160,7 +155,7 @@ module _ {S : Type 0} (M : Machine S) where
   turned {u = u} x y a =
       let l = laps-of a in
       let turn : (z : Word) (n : ℕ) → (z ++ power n (x ++ y)) ++ x ≡ (z ++ x) ++ power n (y ++ x) =
-      λ z n. append-assoc z (power n (x ++ y)) x ∙ ap (λ w. z ++ w) (power-turn n x y) ∙ sym (append-assoc z x (power n (y ++ x)))
+      λ z n. rw (append-assoc z (power n (x ++ y)), power-turn, append-assoc)
       in
       laps-accept (record {
         i = l .i;

@@ -22,7 +22,6 @@ pub mod Meaning
 -- 2. idempotent power
 pub mod Idempotent
 -- 3. closing, and 6. one result only
-pub mod Steps
 pub mod Entering
 pub mod Room
 pub mod Listed
@@ -45,3 +44,6 @@ pub mod Numbered
 pub mod Opposites
 pub mod Sorted
 pub mod Counts
+-- 7. the answers
+pub mod Unrefused
+pub mod Answered

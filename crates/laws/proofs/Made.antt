@@ -8,12 +8,11 @@ use mathlib.Core.List.{[], _∷_, _++_}
 use mathlib.Core.Option.{Option, none, some}
 use lib.ListN.{length}
 use Rattle.laws.specs.Words.{Word, lettersBelow, before}
-use Rattle.laws.specs.Tables.{WordValue, Table, empty-word, Holds, noEntry, byEntries, begun, made}
+use Rattle.laws.specs.Tables.{WordValue, Table, empty-word, Holds, noEntry, byEntries, begun, made, Steps}
 use Rattle.laws.proofs.Booleans.{either, inside, not-nothing}
 use Rattle.laws.proofs.Places.{element}
 use Rattle.laws.proofs.Order.{neither-before, none-before-empty, not-after-then, more-not-after, more-not-empty, letters-less}
 use Rattle.laws.proofs.Order.{from-the-end}
-use Rattle.laws.proofs.Steps.{Steps}
 use Rattle.laws.proofs.Entering.{cut-same, entries-still}
 use Rattle.laws.proofs.Listed.{put-new}
 use Rattle.laws.proofs.Making.{Making, Found, Low, Tried, Onward, Outcome, over, on, found-onward, entering}

@@ -9,12 +9,11 @@ use mathlib.Core.List.{List, [], _∷_, _++_}
 use mathlib.Core.Option.{some}
 use lib.ListN.{length, getD, getElem?}
 use Rattle.laws.specs.Words.{Word, lettersBelow, before}
-use Rattle.laws.specs.Tables.{WordValue, Entry, Table, stored, enter}
+use Rattle.laws.specs.Tables.{WordValue, Entry, Table, stored, enter, Steps}
 use Rattle.laws.proofs.Booleans.{less}
 use Rattle.laws.proofs.Members.{some-member, member-some, stands-in, member}
 use Rattle.laws.proofs.Places.{place-below, length-one-more, at-old, at-new, at-getD}
 use Rattle.laws.proofs.Order.{before-itself, before-then, before-not}
-use Rattle.laws.proofs.Steps.{Steps}
 use Rattle.laws.proofs.Entering.{cut-same, Entered, there, new, full, entered}
 use Rattle.laws.proofs.Listed.{put, put-new, put-old, Listed, Next, add}
 

@@ -130,7 +130,7 @@ neither-before x y h k =
     ⊎-elim (λ b. absurd (false≢true (sym h ∙ b))) (⊎-elim (λ e. e) (λ b. absurd (false≢true (sym k ∙ b)))) (before-or x y)
 
 -- a word before one that is not after a third is before the third
-pub before-not-after : (x y z : Word) → before x y ≡ true → before z y ≡ false → before x z ≡ true
+before-not-after : (x y z : Word) → before x y ≡ true → before z y ≡ false → before x z ≡ true
 before-not-after x y z h k =
     ⊎-elim
     (before-then x y z h)
@@ -175,10 +175,6 @@ lower-event (c ∷ x) a b h = lex-same c c (lower (x ++ (a ∷ [])) (x ++ (b ∷
 pub event-before : (x : Word) (a b : ℕ) → a < b → before (x ++ (a ∷ [])) (x ++ (b ∷ [])) ≡ true
 event-before x a b h = lower-before (x ++ (a ∷ [])) (x ++ (b ∷ [])) (simp length-one-more) (lower-event x a b h)
 
--- a word is before itself with an event more
-pub before-more : (x : Word) (a : ℕ) → before x (x ++ (a ∷ [])) ≡ true
-before-more x a = shorter-before x (x ++ (a ∷ [])) (omega (arith, length-one-more x a))
-
 -- the same event behind two words keeps that one is not after the other
 pub more-not-after : (x y : Word) (a : ℕ) → before y x ≡ false → before (y ++ (a ∷ [])) (x ++ (a ∷ [])) ≡ false
 more-not-after x y a h =
@@ -217,7 +213,7 @@ letters-power k zero v h = refl
 letters-power k (suc i) v h = letters-join k v (power i v) h (letters-power k i v h)
 
 -- and the parts of one are words over k events
-pub letters-parts : (k : ℕ) (x y : Word) → lettersBelow k (x ++ y) ≡ true → (lettersBelow k x ≡ true) × (lettersBelow k y ≡ true)
+letters-parts : (k : ℕ) (x y : Word) → lettersBelow k (x ++ y) ≡ true → (lettersBelow k x ≡ true) × (lettersBelow k y ≡ true)
 unfolding lettersBelow
 letters-parts k [] y h = (refl, h)
 letters-parts k (a ∷ x) y h =

@@ -1,13 +1,15 @@
 -- Numbers as bits, over any width: the number with given bits has them and no others, and a number is given by its bits.
-use Prim.Native.Nat.{ℕ, zero, suc, _+_, _*_, _/_, _%_, _^_, _<_, _≤_}
+use Prim.Native.Nat.{ℕ, zero, suc, _+_, _*_, _-_, _/_, _%_, _^_, _<_, _≤_}
 use native.Mathlib.Omega.{arith}
-use native.Mathlib.Nat.{pow-succ', div-one, div-div-eq-div-mul, mul-suc, mul-le-mul-left, mul-add-div, div-eq-of-lt, mul-add-mod-self-left}
+use native.Mathlib.Nat.{pow-succ', div-one, div-div-eq-div-mul, mul-suc, mul-le-mul-left, mul-add-div, div-eq-of-lt, mul-add-mod-self-left, add-comm, pow-le-pow-right}
 use native.Mathlib.Nat.{mod-eq-of-lt, div-lt-iff-lt-mul, mod-lt, div-add-mod}
 use mathlib.Core.Path.{_≡_, refl, sym, ap, ap₂, _∙_, subst}
 use mathlib.Core.Bool.{Bool, true, false, cond}
+use native.Mathlib.Numerals.{add-one}
+use lib.Pow.{field, mod-mod-pow, shr-shr}
 use lib.Dec.{eqb}
 use borrow.Author.Tests.{eqb-true, eqb-false, eq-eqb, ne-eqb}
-use Rattle.laws.specs.Bits.{bit, fromBits, cell, grid}
+use Rattle.laws.specs.Bits.{bit, fromBits, cell, grid, packedRow}
 
 -- bit 0 is the remainder by two
 bit-zero : (x : ℕ) → bit x 0 ≡ eqb (x % 2) 1
@@ -59,13 +61,15 @@ bit-beyond (suc N) x (suc i) h l = bit-suc x i ∙ bit-beyond N (x / 2) i (omega
 pub same-bits : (N x y : ℕ) → x < 2 ^ N → y < 2 ^ N → ((i : ℕ) → i < N → bit x i ≡ bit y i) → x ≡ y
 same-bits zero x y hx hy h = omega arith
 same-bits (suc N) x y hx hy h =
-    let halves : x / 2 ≡ y / 2 = same-bits N (x / 2) (y / 2) (omega (arith, pow-succ' 2 N)) (omega (arith, pow-succ' 2 N)) (λ i l. sym (bit-suc x i) ∙ h (suc i) (omega arith) ∙ bit-suc y i) in
-    let low : x % 2 ≡ y % 2 = go (eqb (x % 2) 1) (eqb (y % 2) 1) refl refl (sym (bit-zero x) ∙ h 0 (omega arith) ∙ bit-zero y) in
+    let double = pow-succ' 2 N in
+    let bits : (i : ℕ) → i < N → bit (x / 2) i ≡ bit (y / 2) i = λ i l. sym (bit-suc x i) ∙ h (suc i) (omega arith) ∙ bit-suc y i in
+    let halves = same-bits N (x / 2) (y / 2) (omega arith) (omega arith) bits in
+    let low = go (eqb (y % 2) 1) (sym (bit-zero x) ∙ h 0 (omega arith) ∙ bit-zero y) refl in
     omega arith
   where
-    go : (b c : Bool) → eqb (x % 2) 1 ≡ b → eqb (y % 2) 1 ≡ c → eqb (x % 2) 1 ≡ eqb (y % 2) 1 → x % 2 ≡ y % 2
-    go true c e f g = let p = eqb-true (x % 2) 1 e in let q = eqb-true (y % 2) 1 (sym g ∙ e) in omega arith
-    go false c e f g = let p = eqb-false (x % 2) 1 e in let q = eqb-false (y % 2) 1 (sym g ∙ e) in omega arith
+    go : (b : Bool) → eqb (x % 2) 1 ≡ b → eqb (y % 2) 1 ≡ b → x % 2 ≡ y % 2
+    go true e f = omega (arith, eqb-true)
+    go false e f = omega (arith, eqb-false)
 
 -- 0 has no bit, and is below 2^N
 pub no-bit : (i : ℕ) → bit 0 i ≡ false
@@ -74,6 +78,18 @@ no-bit i = bit-beyond 0 0 i (omega arith) (omega arith)
 pub positive : (N : ℕ) → 0 < 2 ^ N
 positive zero = omega arith
 positive (suc N) = let l = positive N in omega (arith, pow-succ' 2 N)
+
+-- a number is below 2 to it
+below-power : (x : ℕ) → x < 2 ^ x
+below-power zero = omega arith
+below-power (suc x) = let l = below-power x in omega (arith, pow-succ' 2 x)
+
+-- so two numbers with the same bits are equal, however many there are
+pub same-numbers : (x y : ℕ) → ((i : ℕ) → bit x i ≡ bit y i) → x ≡ y
+same-numbers x y h = same-bits (x + y) x y (wide x y) (rw (add-comm x y) (wide y x)) (λ i l. h i)
+  where
+    wide : (x y : ℕ) → x < 2 ^ (x + y)
+    wide x y = omega (arith, below-power x, pow-le-pow-right {n = 2} (omega arith) {i = x} {j = x + y} (omega arith))
 
 -- bits that agree below N give one number
 pub fromBits-same : (N : ℕ) (f g : ℕ → Bool) → ((i : ℕ) → i < N → f i ≡ g i) → fromBits N f ≡ fromBits N g
@@ -118,15 +134,26 @@ module _ (W : ℕ) where
   column-below : (i : ℕ) → i < W * W → i % W < W
   column-below i l = mod-lt i (some-row i l)
 
-  -- bits that agree for all p, q below W give one number
-  pub grid-same : (f g : ℕ → ℕ → Bool) → ((p q : ℕ) → p < W → q < W → f p q ≡ g p q) → grid W f ≡ grid W g
-  unfolding grid
-  grid-same f g h =
-      fromBits-same (W * W) (λ i. f (i / W) (i % W)) (λ i. g (i / W) (i % W)) (λ i l. h (i / W) (i % W) (row-below i l) (column-below i l))
-
-  -- and two numbers below 2^(W·W) with the same bits for all p, q below W are equal
+  -- two numbers below 2^(W·W) with the same bits for all p, q below W are equal
   pub same-cells : (x y : ℕ) → x < 2 ^ (W * W) → y < 2 ^ (W * W) → ((p q : ℕ) → p < W → q < W → cell W x p q ≡ cell W y p q) → x ≡ y
   unfolding cell
   same-cells x y hx hy h =
       same-bits (W * W) x y hx hy
       (λ i l. subst (λ j. bit x j ≡ bit y j) (div-add-mod i W) (h (i / W) (i % W) (row-below i l) (column-below i l)))
+
+-- a number above 2^N has the bits of its remainder below N
+low-bits : (N x i : ℕ) → i < N → bit (x % 2 ^ N) i ≡ bit x i
+unfolding bit
+low-bits N x i h =
+    let j : ℕ = N - suc i in
+    let width : N ≡ suc j + i = omega arith in
+    ap (λ (y : ℕ). eqb y 1)
+    (ap (λ M. x % 2 ^ M / 2 ^ i % 2) width ∙ ap (λ (y : ℕ). y % 2) (field x (suc j) i) ∙ ap (λ M. x / 2 ^ i % 2 ^ M % 2) (sym (add-one j)) ∙ mod-mod-pow (x / 2 ^ i) j 1)
+
+-- row p of a packed number has the bits of p
+pub row-bit : (W x p q : ℕ) → q < W → bit (packedRow W x p) q ≡ cell W x p q
+unfolding packedRow cell bit
+row-bit W x p q h = low-bits W (x / 2 ^ (W * p)) q h ∙ shifted-bit x (W * p) q
+  where
+    shifted-bit : (x s i : ℕ) → bit (x / 2 ^ s) i ≡ bit x (s + i)
+    shifted-bit x s i = ap (λ (y : ℕ). eqb (y % 2) 1) (shr-shr x s i)

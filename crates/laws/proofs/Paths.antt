@@ -1,7 +1,8 @@
 -- Paths of any machine: one behind the other, cut in two, and the home states on them.
+use Prim.Native.Nat.{ℕ}
 use mathlib.Core.Path.{_≡_, refl, ap}
 use mathlib.Core.Bool.{true}
-use mathlib.Core.Logic.{_⊎_, ⊎-elim}
+use mathlib.Core.Logic.{⊎-elim}
 use mathlib.Core.List.{[], _∷_, _++_}
 use Rattle.laws.specs.Words.{Word}
 use Rattle.laws.specs.Model.{Machine, Path, stop, step, homed}
@@ -13,12 +14,13 @@ module _ {S : Type 0} (M : Machine S) where
   then stop t = t
   then (step h s) t = step h (then s t)
 
-  -- a path that reads x and then y, and where it stands in between
+  -- a path cut in two, and where it stands in between
   pub record Cut (p : S) (x y : Word) (q : S) : Type 0 where
     pub middle : S
     pub left : Path M p x middle
     pub right : Path M middle y q
 
+  -- every path that reads x and then y
   unfoldable pub cut : (x : Word) {y : Word} {p q : S} → Path M p (x ++ y) q → Cut p x y q
   cut [] {p = p} s = record { middle = p; left = stop; right = s }
   cut (a ∷ x) (step h s) = let c = cut x s in record { middle = c .middle; left = step h (c .left); right = c .right }
@@ -47,7 +49,8 @@ module _ {S : Type 0} (M : Machine S) where
     where
       go : {p : S} {x : Word} (s : Path M p x q) → homed M s ≡ true → homed M (then s t) ≡ true
       go stop h = first-home h t
-      go (step {p = p} e s) h = ⊎-elim (λ f. or-left (homed M (then s t)) f) (λ l. or-right (M .home p) (go s l)) (or-cases (M .home p) (homed M s) h)
+      go (step {p = p} e s) h =
+          ⊎-elim (or-left (homed M (then s t))) (λ l. or-right (M .home p) (go s l)) (or-cases (M .home p) (homed M s) h)
 
   -- any path, and one with a home state behind it
   pub then-home : {p q r : S} {x y : Word} → Path M p x q → HomePath q y r → HomePath p (x ++ y) r
@@ -68,11 +71,25 @@ module _ {S : Type 0} (M : Machine S) where
     pub left : Path M p x middle
     pub right : Path M middle y q
 
+  -- cut behind an arrow more
+  home-behind : {p r q : S} {a : ℕ} {w : Word} → M .arrow p a r ≡ true → AtHome r w q → AtHome p (a ∷ w) q
+  home-behind {a = a} e c =
+      record {
+        x = a ∷ c .x;
+        y = c .y;
+        whole = ap (λ z. a ∷ z) (c .whole);
+        middle = c .middle;
+        is-home = c .is-home;
+        left = step e (c .left);
+        right = c .right;
+      }
+
+  -- every path with a home state can be cut so
   pub at-home : {p q : S} {w : Word} (s : Path M p w q) → homed M s ≡ true → AtHome p w q
   unfolding homed
   at-home (stop {p = p}) h = record { x = []; y = []; whole = refl; middle = p; is-home = h; left = stop; right = stop }
   at-home (step {p = p} {a = a} {w = w} e s) h =
       ⊎-elim
       (λ f. record { x = []; y = a ∷ w; whole = refl; middle = p; is-home = f; left = stop; right = step e s })
-      (λ l. let c = at-home s l in record { x = a ∷ c .x; y = c .y; whole = ap (λ z. a ∷ z) (c .whole); middle = c .middle; is-home = c .is-home; left = step e (c .left); right = c .right })
+      (λ l. home-behind e (at-home s l))
       (or-cases (M .home p) (homed M s) h)

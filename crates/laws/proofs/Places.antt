@@ -1,12 +1,12 @@
 -- Where elements stand in a list: below its length, past its end, and with one element more.
 use Prim.Native.Nat.{ℕ, zero, suc, _≤_, _<_}
 use native.Mathlib.Omega.{arith}
-use mathlib.Core.Path.{_≡_, refl, sym, ap, ap₂}
+use mathlib.Core.Path.{_≡_, refl, sym, ap, ap₂, subst}
 use mathlib.Core.Logic.{_⊎_, inl, inr, ⊎-elim}
 use mathlib.Core.Option.{none, some}
 use mathlib.Core.List.{List, [], _∷_, _++_}
 use lib.ListN.{length, getD, getElem?, length-append}
-use Rattle.laws.proofs.Booleans.{not-nothing}
+use Rattle.laws.proofs.Booleans.{inside, not-nothing}
 
 -- x stands somewhere in the list
 abbrev pub In : {A : Type 0} → A → List A → Type 0
@@ -44,6 +44,12 @@ module _ {A : Type 0} where
   end-past [] i h = omega arith
   end-past (x ∷ xs) zero h = absurd (not-nothing (sym h))
   end-past (x ∷ xs) (suc i) h = omega (arith, end-past xs i h)
+
+  -- what holds of the first element, and of each of the others by its number, holds of all
+  pub at-all : (P : ℕ → A → Type 0) {x : A} (xs : List A) → P 0 x → ((i : ℕ) (y : A) → getElem? xs i ≡ some y → P (suc i) y)
+      → (i : ℕ) (y : A) → getElem? (x ∷ xs) i ≡ some y → P i y
+  at-all P xs first others zero y h = subst (P 0) (inside h) first
+  at-all P xs first others (suc i) y h = others i y h
 
   -- one element more
   pub length-one-more : (xs : List A) (x : A) → length (xs ++ (x ∷ [])) ≡ suc (length xs)

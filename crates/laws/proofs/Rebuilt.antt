@@ -31,7 +31,7 @@ module _ {Value : Type 0} (es : List (Entry Value)) (d i : ℕ) {e : Entry Value
 
 module _ {Value : Type 0} {Val : WordValue Value} {k : ℕ} {es : List (Entry Value)} (h : Holds Val k es) where
   -- predecessors and events rebuild the least word of an entry with a number below d
-  rebuilt-below : length es ≤ noEntry → k ≤ noEvent → (d i : ℕ) (e : Entry Value) → i < d → getElem? es i ≡ some e
+  rebuilt-below : length es ≤ suc noEntry → k ≤ noEvent → (d i : ℕ) (e : Entry Value) → i < d → getElem? es i ≡ some e
       → rebuilt es d i ≡ h .word i
   rebuilt-below few small zero i e l at-i = absurd (omega arith)
   rebuilt-below few small (suc d) i e l at-i = go (rebuilt-below few small d) (h .came i e at-i)
@@ -50,7 +50,7 @@ module _ {Value : Type 0} {Val : WordValue Value} {k : ℕ} {es : List (Entry Va
           cc (rebuilt-more es d i at-i (λ n. omega (arith, b)), before (e .from) f (omega arith) at-f)
 
   -- predecessors and events rebuild the least word
-  pub rebuilt-word : length es ≤ noEntry → k ≤ noEvent → (i : ℕ) (e : Entry Value) → getElem? es i ≡ some e → wordOf es i ≡ h .word i
+  pub rebuilt-word : length es ≤ suc noEntry → k ≤ noEvent → (i : ℕ) (e : Entry Value) → getElem? es i ≡ some e → wordOf es i ≡ h .word i
   unfolding wordOf
   rebuilt-word few small i e at-i = rebuilt-below few small (suc i) i e (omega arith) at-i
 

@@ -2,21 +2,20 @@
 -- that pair does not reject, the course is accepted; and the words of a rejecting pair are a course that is not.
 use Prim.Native.Nat.{ℕ, zero, suc, _<_, _≤_}
 use native.Mathlib.Omega.{arith}
-use mathlib.Core.Path.{_≡_, refl, sym, ap, _∙_, subst}
-use mathlib.Core.Bool.{Bool, true, false, not, _&&_, false≢true}
+use mathlib.Core.Path.{_≡_, refl, sym, ap, _∙_}
+use mathlib.Core.Bool.{Bool, true, false, not, _&&_}
 use mathlib.Core.List.{_++_, append-nil}
 use mathlib.Core.Option.{some}
 use lib.Dec.{eqb}
 use borrow.Author.Tests.{eqb-true, eq-eqb}
-use Rattle.laws.specs.Bits.{bit, someBelow}
+use Rattle.laws.specs.Bits.{bit, someBelow, times}
 use Rattle.laws.specs.Words.{Word, power, empty}
 use Rattle.laws.specs.Model.{Machine, Path, Accepted, Within}
 use Rattle.laws.specs.Profiles.{Profile, sameProfile, marked, join, image, isFitting, isRejecting, startSet, setFrom, setOf}
 use Rattle.laws.specs.Profiles.{profileOf}
-use Rattle.laws.proofs.Booleans.{both, and-left, and-right, some-below, below-some}
+use Rattle.laws.proofs.Booleans.{both, and-left, and-right, never, some-below, below-both}
 use Rattle.laws.proofs.Packing.{no-bit}
 use Rattle.laws.proofs.Joins.{same-equal, equal-same, image-join}
-use Rattle.laws.proofs.Powers.{times}
 use Rattle.laws.proofs.Idempotent.{idempotent}
 use Rattle.laws.proofs.Meaning.{path-below, has-profile, profile-of-two, set-append, set-image, set-of-two, set-means, marked-round}
 use Rattle.laws.proofs.Meaning.{round-marked}
@@ -31,32 +30,37 @@ module _ (W : ℕ) where
   unfolding isFitting
   fits-join P t h = same-equal (join W t t) t (and-right (eqb (image W P t) P) (sameProfile (join W t t) t) h)
 
-  pub image-fits : (P : ℕ) (t : Profile) → image W P t ≡ P → join W t t ≡ t → isFitting W P t ≡ true
+  -- and where both are so, the pair fits
+  image-fits : (P : ℕ) (t : Profile) → image W P t ≡ P → join W t t ≡ t → isFitting W P t ≡ true
   unfolding isFitting
-  image-fits P t i j = both (eq-eqb (image W P t) P i) (subst (λ s. sameProfile (join W t t) s ≡ true) j (equal-same (join W t t)))
+  image-fits P t i j = both (eq-eqb (image W P t) P i) (rw j (equal-same t))
 
-  -- a rejecting pair fits, and no state of its set has a marked way back to itself
+  -- the test for a state of P with a marked way back to itself
+  abbrev back : ℕ → Profile → ℕ → Bool
+  back P t r = bit P r && marked W t r r
+
+  -- a rejecting pair fits
   pub rejecting-fits : (P : ℕ) (t : Profile) → isRejecting W P t ≡ true → isFitting W P t ≡ true
   unfolding isRejecting
-  rejecting-fits P t h = and-left (isFitting W P t) (not (someBelow W (λ r. bit P r && marked W t r r))) h
+  rejecting-fits P t h = and-left (isFitting W P t) (not (someBelow W (back P t))) h
 
+  -- and has no such state
   rejecting-unmarked : (P : ℕ) (t : Profile) → isRejecting W P t ≡ true → (r : ℕ) → r < W → bit P r ≡ true → marked W t r r ≡ true → ⊥
   unfolding isRejecting
   rejecting-unmarked P t h r l b m =
-      false≢true (sym (ap not (some-below (λ r. bit P r && marked W t r r) W r l (both b m))) ∙ and-right (isFitting W P t) (not (someBelow W (λ r. bit P r && marked W t r r))) h)
+      let none = and-right (isFitting W P t) (not (someBelow W (back P t))) h in
+      never (rw (some-below (back P t) W r l (both b m)) at none)
 
-  -- a fitting pair that does not reject has such a state
+  -- a fitting pair that does not reject has one
   fitting-marked : (P : ℕ) (t : Profile) → isFitting W P t ≡ true → isRejecting W P t ≡ false
       → (r : ℕ) × (r < W) × (bit P r ≡ true) × (marked W t r r ≡ true)
   unfolding isRejecting
-  fitting-marked P t f h =
-      let b = below-some (λ r. bit P r && marked W t r r) W (go (isFitting W P t) (someBelow W (λ r. bit P r && marked W t r r)) f h) in
-      (b .0, b .1, and-left (bit P (b .0)) (marked W t (b .0) (b .0)) (b .2), and-right (bit P (b .0)) (marked W t (b .0) (b .0)) (b .2))
+  fitting-marked P t f h = below-both (bit P) (λ r. marked W t r r) W (go (isFitting W P t) (someBelow W (back P t)) f h)
     where
       go : (a c : Bool) → a ≡ true → (a && not c) ≡ false → c ≡ true
       go true true e f = refl
       go true false e f = sym f
-      go false c e f = absurd (false≢true e)
+      go false c e f = never e
 
 module _ (W : ℕ) (M : Machine ℕ) where
   -- THE SETTLING POWER: v^m has an idempotent profile e, so that the set of u·v^m and e fit
@@ -71,24 +75,23 @@ module _ (W : ℕ) (M : Machine ℕ) where
   power-profile : (v : Word) (t : Profile) → profileOf W M v ≡ some t → (n : ℕ)
       → profileOf W M (power (suc n) v) ≡ some (times (join W) n t)
   unfolding power times
-  power-profile v t h zero = ap (λ w. profileOf W M w) (append-nil v) ∙ h
+  power-profile v t h zero = rw append-nil h
   power-profile v t h (suc n) = profile-of-two W M v (power (suc n) v) t (times (join W) n t) h (power-profile v t h n)
 
   -- some power of a round, the exponent at least 1, has an idempotent profile
   pub idempotent-round : (v : Word) → empty v ≡ false
       → (m : ℕ) × (e : Profile) × (1 ≤ m) × (profileOf W M (power m v) ≡ some e) × (join W e e ≡ e)
   idempotent-round v h =
-      let t = has-profile W M v h in
-      let n = idempotent W (t .0) in
-      (suc (n .0), times (join W) (n .0) (t .0), omega arith, power-profile v (t .0) (t .1) (n .0), n .1)
+      let (t, v-has-t) = has-profile W M v h in
+      let (n, i) = idempotent W t in
+      (suc n, times (join W) n t, omega arith, power-profile v t v-has-t n, i)
 
+  -- every course has one
   pub settled : (u v : Word) → empty v ≡ false → Settled u v
   settled u v h =
       let (m, e, m-from-1, round, i) = idempotent-round v h in
       let P : ℕ = setOf W M (u ++ power m v) in
-      let image-of-u : P ≡ image W (setOf W M u) e = set-of-two W M u (power m v) e round in
-      let back : image W P e ≡ P =
-      ap (λ Q. image W Q e) image-of-u ∙ image-join W (setOf W M u) e e ∙ ap (λ s. image W (setOf W M u) s) i ∙ sym image-of-u in
+      let back : image W P e ≡ P = rw (set-of-two W M u (power m v) e round, image-join, i) in
       record { m = m; e = e; m-from-1 = m-from-1; round-profile = round; pair-fits = image-fits W P e back i }
 
   module _ (within : Within W M) where
@@ -96,16 +99,16 @@ module _ (W : ℕ) (M : Machine ℕ) where
     pub accepts : (u v : Word) (s : Settled u v) → isRejecting W (setOf W M (u ++ power (s .m) v)) (s .e) ≡ false → Accepted M u v
     accepts u v s h =
         let w : Word = u ++ power (s .m) v in
-        let f = fitting-marked W (setOf W M w) (s .e) (s .pair-fits) h in
-        let start = set-means W M within w .only-reached (f .0) (f .2) in
-        let back = marked-round W M within (power (s .m) v) (s .e) (f .0) (s .round-profile) (f .1) (f .3) in
+        let (r, r-below, r-in, m) = fitting-marked W (setOf W M w) (s .e) (s .pair-fits) h in
+        let (p, p-starts, reach) = set-means W M within w .only-reached r r-in in
+        let back = marked-round W M within (power (s .m) v) (s .e) r (s .round-profile) r-below m in
         record {
           i = s .m;
           j = s .m;
-          r = f .0;
-          from = start .0;
-          from-start = start .1;
-          reach = start .2;
+          r = r;
+          from = p;
+          from-start = p-starts;
+          reach = reach;
           j-from-1 = s .m-from-1;
           round = back .path;
           round-homed = back .home;
@@ -115,14 +118,14 @@ module _ (W : ℕ) (M : Machine ℕ) where
     sets-stay : (P : ℕ) (v : Word) (t : Profile) → profileOf W M v ≡ some t → image W P t ≡ P → (i : ℕ) → setFrom W M P (power i v) ≡ P
     unfolding power setFrom
     sets-stay P v t p h zero = refl
-    sets-stay P v t p h (suc i) = set-append W M P v (power i v) ∙ ap (λ Q. setFrom W M Q (power i v)) (set-image W M P v t p ∙ h) ∙ sets-stay P v t p h i
+    sets-stay P v t p h (suc i) = rw (set-append W M P v (power i v), set-image W M P v t p, h) (sets-stay P v t p h i)
 
     -- and the profile of every power of v is t if t then t is t
     profiles-stay : (v : Word) (t : Profile) → profileOf W M v ≡ some t → join W t t ≡ t → (j : ℕ) → 1 ≤ j
         → profileOf W M (power j v) ≡ some t
     unfolding power
     profiles-stay v t p i zero h = absurd (omega arith)
-    profiles-stay v t p i (suc zero) h = ap (λ w. profileOf W M w) (append-nil v) ∙ p
+    profiles-stay v t p i (suc zero) h = rw append-nil p
     profiles-stay v t p i (suc (suc j)) h =
         profile-of-two W M v (power (suc j) v) t t p (profiles-stay v t p i (suc j) (omega arith)) ∙ ap (λ s. some s) i
 
@@ -131,15 +134,15 @@ module _ (W : ℕ) (M : Machine ℕ) where
     unfolding setOf
     rejects u v t h p run =
         let P : ℕ = setOf W M u in
+        let w : Word = power (run .i) v in
         let fits = rejecting-fits W P t h in
-        let stays : setOf W M (u ++ power (run .i) v) ≡ P = set-append W M (startSet W M) u (power (run .i) v) ∙ sets-stay P v t p (fits-image W P t fits) (run .i) in
+        let stays : setOf W M (u ++ w) ≡ P = set-append W M (startSet W M) u w ∙ sets-stay P v t p (fits-image W P t fits) (run .i) in
         let r-below = path-below W M within (within .start-below (run .from) (run .from-start)) (run .reach) in
-        let in-set : bit P (run .r) ≡ true =
-        ap (λ Q. bit Q (run .r)) (sym stays) ∙ set-means W M within (u ++ power (run .i) v) .reached (run .from) (run .r) (run .from-start) (run .reach) in
+        let r-in = set-means W M within (u ++ w) .reached (run .from) (run .r) (run .from-start) (run .reach) in
         let back = profiles-stay v t p (fits-join W P t fits) (run .j) (run .j-from-1) in
-        rejecting-unmarked W P t h (run .r) r-below in-set
+        rejecting-unmarked W P t h (run .r) r-below (rw stays at r-in)
         (round-marked W M within (power (run .j) v) t (run .r) back r-below (record { path = run .round; home = run .round-homed }))
 
     -- nothing is reached where the set is empty
     pub no-path : (u : Word) → setOf W M u ≡ 0 → (p q : ℕ) → M .start p ≡ true → Path M p u q → ⊥
-    no-path u h p q s w = false≢true (sym (no-bit q) ∙ ap (λ P. bit P q) (sym h) ∙ set-means W M within u .reached p q s w)
+    no-path u h p q s w = never (sym (no-bit q) ∙ ap (λ P. bit P q) (sym h) ∙ set-means W M within u .reached p q s w)

@@ -1,40 +1,43 @@
 -- THE THEOREMS, to be held beside demands 2 and 3. W is the number of states of the kind of model and k the number of events; nothing here
--- knows how many they are, and nothing is assumed. Under each statement stands the name of what proves it; the `use` lines say where.
-use Prim.Native.Nat.{ℕ, _*_, _^_, _<_, _≤_}
+-- knows how many they are. No axiom is used, and each condition stands in its statement. Under a statement stands what proves it.
+use Prim.Native.Nat.{ℕ, suc, _*_, _^_, _<_, _≤_}
 use native.Mathlib.Omega.{arith}
-use mathlib.Core.Path.{_≡_, refl, sym, ap₂, _∙_}
+use mathlib.Core.Path.{_≡_, refl, sym, ap, ap₂, _∙_}
 use mathlib.Core.Bool.{true, false}
-use mathlib.Core.Logic.{_↔_, ⊎-elim}
+use mathlib.Core.Logic.{_↔_, _⊎_, ⊎-elim}
 use mathlib.Core.List.{List, [], _++_}
 use mathlib.Core.Option.{some}
-use lib.ListN.{length, getElem?}
+use lib.ListN.{length, getElem?, getD}
+use Rattle.laws.specs.Bits.{times}
 use Rattle.laws.specs.Words.{Word, power, empty}
-use Rattle.laws.specs.Model.{Machine, Path, homed, Accepted, Course, Model, machine, Within}
-use Rattle.laws.specs.Tables.{WordValue, Entry, noEntry, noEvent, Holds, Table, UpTo, made, wordOf}
-use Rattle.laws.specs.Profiles.{Profile, values, marked, join, image, setOf, SetMeans, profileOf, ProfileMeans, setValue}
-use Rattle.laws.specs.Profiles.{profileValue}
-use Rattle.laws.specs.Profiles.{HoldsSets, HoldsProfiles, Verdict, covered, uncovered, RightVerdict, FirstPair, verdict}
-use Rattle.laws.specs.Opposite.{Arrow, sorted, blockProfiles, flags, stateCount, arrows, arrowCount, opposite, Opposed}
+use Rattle.laws.specs.Model.{Machine, Path, homed, Accepted, Course, Kind, Model, machine, Within}
+use Rattle.laws.specs.Tables.{WordValue, Entry, noEntry, noEvent, Holds, Table, UpTo, Steps, Codes, Closes, wordOf}
+use Rattle.laws.specs.Profiles.{Profile, values, marked, join, image, startSet, setOf, SetMeans, eventProfile, profileOf, ProfileMeans}
+use Rattle.laws.specs.Profiles.{setValue, profileValue, HoldsSets, HoldsProfiles}
+use Rattle.laws.specs.Profiles.{isRejecting, FirstPair, Verdict, covered, uncovered, RightVerdict, verdict}
+use Rattle.laws.specs.Opposite.{Arrow, sorted, written, blockProfiles, flags, stateCount, arrows, arrowCount, opposite, Opposed}
+use Rattle.laws.specs.Refusals.{firstOf, modelChecks}
+use Rattle.laws.specs.Answers.{closingAnswer, words, verdictAnswer, oppositeAnswer}
 use Rattle.laws.proofs.Places.{place-below}
 use Rattle.laws.proofs.Members.{member}
 use Rattle.laws.proofs.Joins.{join-assoc}
 use Rattle.laws.proofs.Meaning.{machine-within, set-means, profile-means, marked-round, round-marked, has-profile, profile-has}
 use Rattle.laws.proofs.Meaning.{profile-of-two, set-of-two, one-set, one-profile}
-use Rattle.laws.proofs.Powers.{times}
 use Rattle.laws.proofs.Idempotent.{idempotent}
 use Rattle.laws.proofs.Rounds.{idempotent-round}
-use Rattle.laws.proofs.Steps.{Steps}
-use Rattle.laws.proofs.Made.{made-holds}
 use Rattle.laws.proofs.Rebuilt.{rebuilt-word, word-short, word-shorter}
 use Rattle.laws.proofs.Unique.{same-entries}
-use Rattle.laws.proofs.Tables.{Codes, few, enough, up-to}
-use Rattle.laws.proofs.Complete.{set-steps, profile-steps, set-codes, profile-codes, closed}
-use Rattle.laws.proofs.Verdicts.{verdict-right, verdict-first}
+use Rattle.laws.proofs.Tables.{few, closes}
+use Rattle.laws.proofs.Values.{entry-at}
+use Rattle.laws.proofs.Complete.{set-codes, sets-closing, profiles-closing, closed}
+use Rattle.laws.proofs.Verdicts.{covered-none, verdict-first, first-verdict, pair-once, verdict-right}
 use Rattle.laws.proofs.Opposites.{opposed}
 use Rattle.laws.proofs.Sorted.{arrows-sorted}
 use Rattle.laws.proofs.Counts.{arrows-counted, states-counted, arrows-inside}
+use Rattle.laws.proofs.Unrefused.{unrefused, start-mask, event-arrows}
+use Rattle.laws.proofs.Answered.{closing-whole, four-exactly, five-exactly, verdict-answers, six-exactly, opposite-answers, seven-exactly}
 
--- Every model with at most W states is a machine with states below W, of which the theorems speak
+-- The theorems speak of machines with states below W. Every model with at most W states is one
 pub every-model : (W : ℕ) (m : Model) → m .n ≤ W → Within W (machine W m)
 every-model = machine-within
 
@@ -48,7 +51,8 @@ module _ (W : ℕ) (M : Machine ℕ) (within : Within W M) where
   pub profiles-mean : (w : Word) (t : Profile) → profileOf W M w ≡ some t → ProfileMeans W M w t
   profiles-mean = profile-means W M within
 
-  -- it marks r to r exactly if some path has a home state among its states; of the marks, what comes below uses this alone
+  -- it marks r to r exactly if some path from r to r has a home state among its states; of what a mark means, the verdict and the
+  -- opposite use this alone
   pub rounds-mean : (w : Word) (t : Profile) (r : ℕ) → profileOf W M w ≡ some t → r < W
       → (marked W t r r ≡ true) ↔ ((s : Path M r w r) × (homed M s ≡ true))
   rounds-mean w t r h l = (
@@ -75,7 +79,6 @@ module _ (W : ℕ) (M : Machine ℕ) where
 
 -- 2. IDEMPOTENT POWER: some power of every profile, and of every round, the exponent at least 1, joined with itself is itself
 module _ (W : ℕ) (M : Machine ℕ) where
-  -- times n t is t joined with itself, n + 1 of them
   pub some-power : (t : Profile) → (n : ℕ) × (join W (times (join W) n t) (times (join W) n t) ≡ times (join W) n t)
   some-power = idempotent W
 
@@ -83,33 +86,16 @@ module _ (W : ℕ) (M : Machine ℕ) where
       → (m : ℕ) × (e : Profile) × (1 ≤ m) × (profileOf W M (power m v) ≡ some e) × (join W e e ≡ e)
   some-repeat = idempotent-round W M
 
--- 3. CLOSING: some table holds all values, with no more entries than bound; the table made with a room is that one up to the room, cut
--- exactly if there are more; so a table that is not cut holds all values
-pub record Closes {Value : Type 0} (Val : WordValue Value) (k bound : ℕ) : Type 0 where
-  pub complete : List (Entry Value)
-  pub holds : Holds Val k complete
-  pub up-to-room : (room : ℕ) → UpTo room complete (made Val k room)
-  pub uncut : (room : ℕ) → made Val k room .cut ≡ false → Holds Val k (made Val k room .entries)
-  pub at-most : length complete ≤ bound
-
-closes : {Value : Type 0} {Val : WordValue Value} {k bound : ℕ} → Steps Val → Codes Val k bound → Closes Val k bound
-closes {Val = Val} {k = k} {bound = bound} s c =
-    let h = enough s c in
-    record {
-      complete = made Val k bound .entries;
-      holds = h;
-      up-to-room = up-to s (made Val k bound .entries) h;
-      uncut = made-holds s k;
-      at-most = few c h;
-    }
+-- 3. CLOSING, for any value that can be closed and has codes; so for the sets, of which there are at most 2^W, and for the profiles
+pub values-close : {Value : Type 0} {Val : WordValue Value} {k bound : ℕ} → Steps Val → Codes Val k bound → Closes Val k bound
+values-close = closes
 
 module _ (W : ℕ) (M : Machine ℕ) (k : ℕ) where
-  -- there are at most 2^W sets, and finitely many profiles
   pub sets-close : Closes (setValue W M) k (2 ^ W)
-  sets-close = closes (set-steps W M) (set-codes W M k)
+  sets-close = sets-closing W M k
 
   pub profiles-close : Closes (profileValue W M) k (2 ^ (W * W) * 2 ^ (W * W))
-  profiles-close = closes (profile-steps W M) (profile-codes W M k)
+  profiles-close = profiles-closing W M k
 
   -- the word of a set has fewer than 2^W letters, that of a profile at most as many as there are profiles
   pub set-words : (es : List (Entry ℕ)) (h : HoldsSets W M k es) (i : ℕ) (e : Entry ℕ) → getElem? es i ≡ some e
@@ -121,23 +107,43 @@ module _ (W : ℕ) (M : Machine ℕ) (k : ℕ) where
       → length (h .word i) ≤ length es
   profile-words es h i e at = omega (arith, word-short h i e at, place-below es i at)
 
--- predecessor and event rebuild the least word of every entry, of sets and profiles alike
+-- predecessor and event rebuild the least word of every entry, of sets and profiles alike; for the numbers that stand for "none" it takes
+-- at most 65,536 entries and at most 255 events
 pub words-rebuilt : {Value : Type 0} {Val : WordValue Value} {k : ℕ} (es : List (Entry Value)) (h : Holds Val k es)
-    → length es ≤ noEntry → k ≤ noEvent → (i : ℕ) (e : Entry Value) → getElem? es i ≡ some e → wordOf es i ≡ h .word i
+    → length es ≤ suc noEntry → k ≤ noEvent → (i : ℕ) (e : Entry Value) → getElem? es i ≡ some e → wordOf es i ≡ h .word i
 words-rebuilt es h = rebuilt-word h
+
+-- 4. THE VERDICT of two tables is "covered" exactly if no pair rejects, and otherwise the words of the first pair that does
+module _ (W : ℕ) (sets : List (Entry ℕ)) (profiles : List (Entry Profile)) where
+  pub covered-is-none : (verdict W sets profiles ≡ covered) ↔ ((i P : ℕ) → getElem? (values sets) i ≡ some P
+      → (j : ℕ) (t : Profile) → getElem? (values profiles) j ≡ some t → isRejecting W P t ≡ false)
+  covered-is-none = covered-none W sets profiles
+
+  pub uncovered-is-first : (u v : Word) → verdict W sets profiles ≡ uncovered u v
+      → (i : ℕ) × (j : ℕ) × FirstPair W (values sets) (values profiles) i j × (u ≡ wordOf sets i) × (v ≡ wordOf profiles j)
+  uncovered-is-first = verdict-first W sets profiles
+
+  pub first-is-uncovered : (i j : ℕ) → FirstPair W (values sets) (values profiles) i j
+      → verdict W sets profiles ≡ uncovered (wordOf sets i) (wordOf profiles j)
+  first-is-uncovered = first-verdict W sets profiles
 
 module _ (W : ℕ) (M : Machine ℕ) (k : ℕ) (sets : List (Entry ℕ)) (profiles : List (Entry Profile)) (hs : HoldsSets W M k sets)
     (hp : HoldsProfiles W M k profiles) where
-  -- 4. THE VERDICT of complete tables is right: "covered" exactly if every course is accepted; otherwise its u and v are a course with no
-  -- accepting run
-  pub verdict-is-right : Within W M → length sets ≤ noEntry → length profiles ≤ noEntry → k ≤ noEvent
+  -- of complete tables it is right: "covered" exactly if every course is accepted, and otherwise u and v are a course that is not accepted
+  pub verdict-is-right : Within W M → length sets ≤ suc noEntry → length profiles ≤ suc noEntry → k ≤ noEvent
       → RightVerdict M k (verdict W sets profiles)
   verdict-is-right within = verdict-right W M within k sets profiles hs hp
 
-  -- and these are the words of the first rejecting pair
-  pub verdict-is-first : (u v : Word) → verdict W sets profiles ≡ uncovered u v
-      → (i : ℕ) × (j : ℕ) × FirstPair W (values sets) (values profiles) i j × (u ≡ wordOf sets i) × (v ≡ wordOf profiles j)
-  verdict-is-first = verdict-first W sets profiles
+  -- u then has fewer than 2^W letters, and v at most as many as there are profiles
+  pub verdict-is-short : length sets ≤ suc noEntry → length profiles ≤ suc noEntry → k ≤ noEvent → (u v : Word)
+      → verdict W sets profiles ≡ uncovered u v → (length u < 2 ^ W) × (length v ≤ length profiles)
+  verdict-is-short few-sets few-profiles few-events u v h =
+      let (i, j, first, of-u, of-v) = verdict-first W sets profiles u v h in
+      let (P, P-at, _) = entry-at sets i (first .P) (first .set-at) in
+      let (t, t-at, _) = entry-at profiles j (first .t) (first .profile-at) in
+      let u-word = ap length (of-u ∙ rebuilt-word hs few-sets few-events i P P-at) in
+      let v-word = ap length (of-v ∙ rebuilt-word hp few-profiles few-events j t t-at) in
+      (omega (arith, set-words W M k sets hs i P P-at), omega (arith, profile-words W M k profiles hp j t t-at))
 
   -- 5. THE OPPOSITE of complete tables, read from its written arrows and flags: of every course exactly one of the two machines accepts
   pub opposite-is-opposed : Within W M → Opposed M (opposite W M k (values sets) (values profiles)) k
@@ -164,7 +170,7 @@ module _ (W : ℕ) (M : Machine ℕ) (k : ℕ) (Ps : List ℕ) (ts : List Profil
   pub opposite-states : length (flags Ps ts (blockProfiles W Ps ts)) ≡ stateCount Ps ts (blockProfiles W Ps ts)
   opposite-states = states-counted Ps ts (blockProfiles W Ps ts)
 
--- 6. ONE RESULT ONLY. What a table holds, and what it is up to a room, has one solution
+-- 6. ONE RESULT ONLY. What a table holds, what it is up to a room, and which pair is the first, has one solution
 pub one-table : {Value : Type 0} {Val : WordValue Value} {k : ℕ} (es fs : List (Entry Value)) → Holds Val k es → Holds Val k fs → es ≡ fs
 one-table = same-entries
 
@@ -172,15 +178,17 @@ pub one-part : {Value : Type 0} {room : ℕ} {complete : List (Entry Value)} (s 
     → UpTo room complete t → s ≡ t
 one-part s t a b = ap₂ (λ es c. record { entries = es; cut = c }) (a .first ∙ sym (b .first)) (a .cut ∙ sym (b .cut))
 
+pub one-pair : {W : ℕ} {Ps : List ℕ} {ts : List Profile} {i j l m : ℕ} → FirstPair W Ps ts i j → FirstPair W Ps ts l m
+    → (i ≡ l) × (j ≡ m)
+one-pair = pair-once
+
 module _ (W : ℕ) (M : Machine ℕ) where
-  -- no second set of W bits, and no second profile of W·W, means the paths of a word
-  pub one-set-means : (w : Word) (P Q : ℕ) → P < 2 ^ W → Q < 2 ^ W → SetMeans W M w P → SetMeans W M w Q → P ≡ Q
+  -- no second set, and no second profile, means the paths of a word
+  pub one-set-means : (w : Word) (P Q : ℕ) → SetMeans W M w P → SetMeans W M w Q → P ≡ Q
   one-set-means = one-set W M
 
-  pub one-profile-means : (w : Word) (s t : Profile) → s .arrows < 2 ^ (W * W) → s .marks < 2 ^ (W * W) → t .arrows < 2 ^ (W * W)
-      → t .marks < 2 ^ (W * W) → ProfileMeans W M w s → ProfileMeans W M w t → s ≡ t
-  one-profile-means w s t a b c d =
-      one-profile W M w s t (record { arrows-below = a; marks-below = b }) (record { arrows-below = c; marks-below = d })
+  pub one-profile-means : (w : Word) (s t : Profile) → ProfileMeans W M w s → ProfileMeans W M w t → s ≡ t
+  one-profile-means = one-profile W M
 
 module _ {S : Type 0} (M : Machine S) (k : ℕ) where
   -- where one right verdict is "covered", so is every other
@@ -191,3 +199,52 @@ module _ {S : Type 0} (M : Machine S) (k : ℕ) where
   pub one-opposite : {T R : Type 0} (O : Machine T) (Q : Machine R) → Opposed M O k → Opposed M Q k → (u v : Word) → Course k u v
       → Accepted O u v → Accepted Q u v
   one-opposite O Q a b u v c h = ⊎-elim (λ m. absurd (a .not-both u v c m h)) (λ q. q) (b .one u v c)
+
+-- 7. THE ANSWERS. Of a model that is not refused, the set of the empty word is the start mask, and the arrows of an event's profile are the
+-- event's number
+module _ (K : Kind) (m : Model) (passes : firstOf (modelChecks K m) .number ≡ 0) where
+  pub start-is-mask : startSet (K .states) (machine (K .states) m) ≡ m .start
+  start-is-mask = start-mask K m (unrefused K m passes)
+
+  pub event-is-number : (a : ℕ) → a < m .k → eventProfile (K .states) (machine (K .states) m) a .arrows ≡ getD (m .arrows) a 0
+  event-is-number = event-arrows K m (unrefused K m passes)
+
+  -- closing gives 4 exactly if there are more sets than the room s, and 5 exactly if these fit and there are more profiles than t
+  pub four-is-exact : (s t : ℕ) (sets : List (Entry ℕ)) → HoldsSets (K .states) (machine (K .states) m) (m .k) sets
+      → (closingAnswer K m s t .number ≡ 4) ↔ (s < length sets)
+  four-is-exact s t = four-exactly K m s t passes
+
+  pub five-is-exact : (s t : ℕ) (sets : List (Entry ℕ)) → HoldsSets (K .states) (machine (K .states) m) (m .k) sets
+      → (profiles : List (Entry Profile)) → HoldsProfiles (K .states) (machine (K .states) m) (m .k) profiles
+      → (closingAnswer K m s t .number ≡ 5) ↔ ((length sets ≤ s) × (t < length profiles))
+  five-is-exact s t = five-exactly K m s t passes
+
+module _ (K : Kind) (m : Model) (s t : ℕ) where
+  -- with number 0 the tables that closing gives are complete
+  pub closing-is-complete : closingAnswer K m s t .number ≡ 0
+      → HoldsSets (K .states) (machine (K .states) m) (m .k) (closingAnswer K m s t .sets)
+      × HoldsProfiles (K .states) (machine (K .states) m) (m .k) (closingAnswer K m s t .profiles)
+  closing-is-complete h = let c = closing-whole K m s t h in (c .sets-hold, c .profiles-hold)
+
+  -- demand 2: a verdict given with number 0 is right; 6 is given exactly if u and v exceed the word memory
+  pub verdict-answer-is-right : (w : ℕ) → s ≤ suc noEntry → t ≤ suc noEntry → K .events ≤ noEvent → verdictAnswer K m s t w .number ≡ 0
+      → (x : Verdict) × (verdictAnswer K m s t w .verdict ≡ some x) × RightVerdict (machine (K .states) m) (m .k) x
+  verdict-answer-is-right = verdict-answers K m s t
+
+  pub six-is-exact : (w : ℕ) → let c = closingAnswer K m s t in c .number ≡ 0
+      → (verdictAnswer K m s t w .number ≡ 6) ↔ (w < length (words (some (verdict (K .states) (c .sets) (c .profiles)))))
+  six-is-exact = six-exactly K m s t
+
+  -- demand 3: what is written with number 0 is an opposite; 7 is given exactly if its counted states or arrows exceed their room
+  pub opposite-answer-is-opposed : (p q : ℕ) → let o = oppositeAnswer K m s t p q in o .number ≡ 0
+      → Opposed (machine (K .states) m) (written (o .flags) (o .arrows)) (m .k)
+  opposite-answer-is-opposed = opposite-answers K m s t
+
+  pub seven-is-exact : (p q : ℕ) → let c = closingAnswer K m s t in
+      let Ps = values (c .sets) in
+      let ts = values (c .profiles) in
+      let bs = blockProfiles (K .states) Ps ts in
+      c .number ≡ 0
+      → (oppositeAnswer K m s t p q .number ≡ 7)
+      ↔ ((p < stateCount Ps ts bs) ⊎ (q < arrowCount (K .states) (machine (K .states) m) (m .k) Ps ts bs))
+  seven-is-exact = seven-exactly K m s t

@@ -7,12 +7,11 @@ use mathlib.Core.List.{List, [], _∷_, _++_}
 use mathlib.Core.Option.{some}
 use lib.ListN.{getElem?}
 use Rattle.laws.specs.Words.{Word, lettersBelow}
-use Rattle.laws.specs.Tables.{WordValue, Entry, Holds}
+use Rattle.laws.specs.Tables.{WordValue, Entry, Holds, Steps}
 use Rattle.laws.specs.Profiles.{values}
 use Rattle.laws.proofs.Booleans.{inside, not-nothing}
 use Rattle.laws.proofs.Places.{In}
 use Rattle.laws.proofs.Order.{letters-more}
-use Rattle.laws.proofs.Steps.{Steps}
 
 module _ {Value : Type 0} where
   -- the value of an entry stands in the list of values at the entry's number, and nothing else does
@@ -32,11 +31,13 @@ module _ {Value : Type 0} where
 module _ {Value : Type 0} {Val : WordValue Value} {k : ℕ} (es : List (Entry Value)) (h : Holds Val k es) where
   -- the value of a word over the events is found
   pub found : (w : Word) (x : Value) → lettersBelow k w ≡ true → Val .of w ≡ some x → In x (values es)
-  found w x l v = let f = h .all w x l v in (f .0, value-at es (f .0) (f .1) (f .2) ∙ ap (λ y. some y) (f .3))
+  found w x l v = let (i, e, e-at, e-value) = h .all w x l v in (i, value-at es i e e-at ∙ ap some e-value)
 
   -- so is the value after one event more
   pub found-next : Steps Val → (x : Value) (a : ℕ) → In x (values es) → a < k → In (Val .next (some x) a) (values es)
   found-next steps x a (i, at) l =
-      let e = entry-at es i x at in
-      let v : Val .of (h .word i) ≡ some x = h .word-value i (e .0) (e .1) ∙ ap (λ y. some y) (e .2) in
-      found (h .word i ++ (a ∷ [])) (Val .next (some x) a) (letters-more k (h .word i) a (h .word-letters i (e .0) (e .1)) l) (steps .more (h .word i) a ∙ ap (λ y. some (Val .next y a)) v)
+      let (e, e-at, e-value) = entry-at es i x at in
+      let w : Word = h .word i in
+      let v : Val .of w ≡ some x = h .word-value i e e-at ∙ ap some e-value in
+      let letters = letters-more k w a (h .word-letters i e e-at) l in
+      found (w ++ (a ∷ [])) (Val .next (some x) a) letters (rw (steps .more w a, v))

@@ -79,3 +79,8 @@ module _ {A : Type 0} where
 -- what f lists for each number below k, one list behind the other
 unfoldable pub eachBelow : {A : Type 0} → ℕ → (ℕ → List A) → List A
 eachBelow k f = gather (λ _ a. f a) 0 (counted 0 k)
+
+-- x combined with itself by op, n + 1 of them
+unfoldable pub times : {A : Type 0} → (A → A → A) → ℕ → A → A
+times op zero x = x
+times op (suc n) x = op x (times op n x)

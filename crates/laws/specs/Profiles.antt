@@ -1,6 +1,6 @@
 -- Document 01, "Sets and profiles": the set and the profile of a word and what they mean, the join, fitting and rejecting pairs, the
 -- two tables, and the verdict. W is the number of states of the kind of model.
-use Prim.Native.Nat.{ℕ, suc, _<_}
+use Prim.Native.Nat.{ℕ, suc, _*_, _^_, _<_}
 use mathlib.Core.Path.{_≡_}
 use mathlib.Core.Bool.{Bool, true, false, not, _&&_, _||_}
 use mathlib.Core.List.{List, [], _∷_, map}
@@ -152,6 +152,9 @@ module _ (W : ℕ) (M : Machine ℕ) where
     pub only-path : (p q : ℕ) → p < W → q < W → leadsTo W t p q ≡ true → Path M p w q
     pub marked-path : (p q : ℕ) → p < W → q < W → (s : Path M p w q) → markedPath M s ≡ true → marked W t p q ≡ true
     pub only-marked-path : (p q : ℕ) → p < W → q < W → marked W t p q ≡ true → (s : Path M p w q) × (markedPath M s ≡ true)
+    -- and neither number has any other bit
+    pub arrows-below : t .arrows < 2 ^ (W * W)
+    pub marks-below : t .marks < 2 ^ (W * W)
 
   -- the values of the two tables. Every word has a set, so the first case of the next set never arises
   unfoldable pub nextSet : Option ℕ → ℕ → ℕ

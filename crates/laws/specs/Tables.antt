@@ -1,6 +1,6 @@
 -- Document 01, "Sets and profiles", what both tables have in common: what a table holds, how it is made up to a room, and how an
 -- entry's word is rebuilt. The values are sets in one table and profiles in the other; nothing here knows which.
-use Prim.Native.Nat.{ℕ, zero, suc, _<_}
+use Prim.Native.Nat.{ℕ, zero, suc, _<_, _≤_}
 use mathlib.Core.Path.{_≡_}
 use mathlib.Core.Bool.{Bool, true, false, _||_, cond}
 use mathlib.Core.List.{List, [], _∷_, _++_}
@@ -106,7 +106,8 @@ module _ {Value : Type 0} (Val : WordValue Value) (k room : ℕ) where
   made = byEntries room 0 (begun (Val .of []))
 
 module _ {Value : Type 0} where
-  -- the word of entry number i, through ever smaller numbers; d bounds how many. No event is 255, so 255 is the empty word's
+  -- the word of entry number i, through ever smaller numbers; d bounds how many. With at most 255 events none is 255, so 255 is the
+  -- empty word's
   unfoldable pub rebuilt : List (Entry Value) → ℕ → ℕ → Word
   rebuilt entries zero i = []
   rebuilt entries (suc d) i =
@@ -122,3 +123,25 @@ module _ {Value : Type 0} where
   -- the least word of entry number i, rebuilt from predecessors and events
   unfoldable pub wordOf : List (Entry Value) → ℕ → Word
   wordOf entries i = rebuilt entries (suc i) i
+
+-- WHAT CAN BE CLOSED: the value of a word with one event more is the next value, and the test tells exactly equal values
+pub record Steps {Value : Type 0} (Val : WordValue Value) : Type 0 where
+  pub more : (w : Word) (a : ℕ) → Val .of (w ++ (a ∷ [])) ≡ some (Val .next (Val .of w) a)
+  pub same-equal : (x y : Value) → Val .same x y ≡ true → x ≡ y
+  pub equal-same : (x : Value) → Val .same x x ≡ true
+
+-- codes below a bound that tell the values of words over k events apart
+pub record Codes {Value : Type 0} (Val : WordValue Value) (k bound : ℕ) : Type 0 where
+  pub code : Value → ℕ
+  pub below : (w : Word) (x : Value) → lettersBelow k w ≡ true → Val .of w ≡ some x → code x < bound
+  pub apart : (v w : Word) (x y : Value) → lettersBelow k v ≡ true → lettersBelow k w ≡ true → Val .of v ≡ some x → Val .of w ≡ some y
+      → code x ≡ code y → x ≡ y
+
+-- WHAT CLOSING GIVES: some table holds all values, with no more entries than bound; the table made with a room is that one up to the
+-- room; and a table that is not cut holds all values
+pub record Closes {Value : Type 0} (Val : WordValue Value) (k bound : ℕ) : Type 0 where
+  pub complete : List (Entry Value)
+  pub holds : Holds Val k complete
+  pub at-most : length complete ≤ bound
+  pub up-to-room : (room : ℕ) → UpTo room complete (made Val k room)
+  pub uncut : (room : ℕ) → made Val k room .cut ≡ false → Holds Val k (made Val k room .entries)
