@@ -1,18 +1,22 @@
--- The theorems put to use at the hand-worked models, so that none of them holds only because nothing meets its conditions: the tables of C
--- and E hold all values, E accepts every course, C rejects the course of its verdict, and C and its listed opposite share the courses.
+-- The theorems on tables, words, verdict, opposite and answers put to use at C and E, where their conditions are met: C's listed tables hold
+-- all sets and profiles, C does not accept the course of its row, of every course exactly one of C and its listed opposite accepts, and E
+-- accepts every course.
 use Prim.Native.Nat.{ℕ}
 use native.Mathlib.Omega.{arith}
 use mathlib.Core.Path.{_≡_, refl, sym}
 use mathlib.Core.List.{[], _∷_}
+use mathlib.Core.Option.{some}
 use Rattle.laws.specs.Words.{Word}
-use Rattle.laws.specs.Model.{Accepted, Course, machine, Within}
+use Rattle.laws.specs.Model.{Accepted, Course, eight, machine, Within}
 use Rattle.laws.specs.Tables.{UpTo}
-use Rattle.laws.specs.Profiles.{HoldsSets, HoldsProfiles, setTable, profileTable}
+use Rattle.laws.specs.Profiles.{Verdict, RightVerdict, HoldsSets, HoldsProfiles, setTable, profileTable}
 use Rattle.laws.specs.Opposite.{written, Opposed}
+use Rattle.laws.specs.Answers.{verdictAnswer, oppositeAnswer}
 use Rattle.laws.specs.HandWorked.{C, E}
 use Rattle.laws.proofs.Computed.{computed}
 use Rattle.laws.proofs.HandWorked.{And, _▸_, set, profile, c-set-entries, c-profile-entries, c-flags, c-arrows}
 use Rattle.laws.proofs.Theorems.{every-model, sets-close, profiles-close, words-rebuilt, verdict-is-right, opposite-is-opposed}
+use Rattle.laws.proofs.Theorems.{verdict-answer-is-right, opposite-answer-is-opposed}
 
 -- C's profiles with room for two of three are cut, with room for three or more they are not
 UpToRoom : ℕ → Type 0
@@ -36,21 +40,21 @@ c-profiles : HoldsProfiles 8 (machine 8 C) 2 c-profile-entries
 unfolding computed set profile c-profile-entries
 c-profiles = profiles-close 8 (machine 8 C) 2 .uncut 2048 refl
 
--- their least words are the empty word and 0; and 0, 1 and 0 1
+-- the least word of its second set is 0, and that of its third profile 0 1
 least-words : And (c-sets .word 1 ≡ 0 ∷ []) (c-profiles .word 2 ≡ 0 ∷ 1 ∷ [])
 unfolding computed set profile c-set-entries c-profile-entries
 least-words =
     sym (words-rebuilt c-set-entries c-sets (omega arith) (omega arith) 1 (set 2 0 0) refl)
     ▸ sym (words-rebuilt c-profile-entries c-profiles (omega arith) (omega arith) 2 (profile 257 257 0 1) refl)
 
--- C's verdict is right, so the course of its row has no accepting run
+-- C's verdict is right, so the course of its row is not accepted
 c-uncovered : Accepted (machine 8 C) [] (1 ∷ []) → ⊥
 unfolding computed set profile c-set-entries c-profile-entries
 c-uncovered =
     verdict-is-right 8 (machine 8 C) 2 c-set-entries c-profile-entries c-sets c-profiles c-within (omega arith) (omega arith) (omega arith)
     .uncovered-rejects [] (1 ∷ []) refl
 
--- the listed opposite of C accepts exactly the courses that C does not
+-- of every course exactly one of C and its listed opposite accepts
 c-opposed : Opposed (machine 8 C) (written c-flags c-arrows) 2
 unfolding computed set profile c-set-entries c-profile-entries c-flags c-arrows
 c-opposed = opposite-is-opposed 8 (machine 8 C) 2 c-set-entries c-profile-entries c-sets c-profiles c-within
@@ -62,3 +66,12 @@ e-covered =
     verdict-is-right 8 (machine 8 E) 1 (setTable 8 (machine 8 E) 1 256 .entries) (profileTable 8 (machine 8 E) 1 2048 .entries)
     (sets-close 8 (machine 8 E) 1 .uncut 256 refl) (profiles-close 8 (machine 8 E) 1 .uncut 2048 refl)
     (every-model 8 E (omega arith)) (omega arith) (omega arith) (omega arith) .covered-accepts refl
+
+-- C's answers, in the kind of eight, with the rooms that the program will lend: its verdict is right, and what is written is an opposite
+c-verdict : (x : Verdict) × (verdictAnswer eight C 256 2048 2304 .verdict ≡ some x) × RightVerdict (machine 8 C) 2 x
+unfolding computed
+c-verdict = verdict-answer-is-right eight C 256 2048 2304 (omega arith) (omega arith) (omega arith) refl
+
+c-written : Opposed (machine 8 C) (written (oppositeAnswer eight C 256 2048 6 16 .flags) (oppositeAnswer eight C 256 2048 6 16 .arrows)) 2
+unfolding computed
+c-written = opposite-answer-is-opposed eight C 256 2048 6 16 refl

@@ -129,7 +129,7 @@ module _ (W : ℕ) (M : Machine ℕ) where
     profiles-stay v t p i (suc (suc j)) h =
         profile-of-two W M v (power (suc j) v) t t p (profiles-stay v t p i (suc j) (omega arith)) ∙ ap (λ s. some s) i
 
-    -- WHERE A PAIR REJECTS, its words are a course that has no accepting run
+    -- WHERE A PAIR REJECTS, its words are a course that is not accepted
     pub rejects : (u v : Word) (t : Profile) → isRejecting W (setOf W M u) t ≡ true → profileOf W M v ≡ some t → Accepted M u v → ⊥
     unfolding setOf
     rejects u v t h p run =

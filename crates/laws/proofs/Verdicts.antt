@@ -1,5 +1,5 @@
 -- The verdict of two complete tables is right: it names the first rejecting pair, it is "covered" exactly if every course is accepted,
--- and otherwise its u and v are a course with no accepting run.
+-- and otherwise its u and v are a course that is not accepted.
 use Prim.Native.Nat.{ℕ, suc, _+_, _<_, _≤_}
 use native.Mathlib.Omega.{arith}
 use native.Mathlib.Nat.{zero-add}
@@ -188,7 +188,7 @@ module _ (W : ℕ) (M : Machine ℕ) (within : Within W M) (k : ℕ) (sets : Lis
     says-uncovered : (u v : Word) → Course k u v → (Accepted M u v → ⊥) → Says (uncovered u v)
 
   module _ (few-sets : length sets ≤ suc noEntry) (few-profiles : length profiles ≤ suc noEntry) (few-events : k ≤ noEvent) where
-    -- the words of a rejecting pair are a course with no accepting run
+    -- the words of a rejecting pair are a course that is not accepted
     pair-says : (i j : ℕ) → FirstPair W (values sets) (values profiles) i j → Says (uncovered (wordOf sets i) (wordOf profiles j))
     unfolding setValue profileValue
     pair-says i j first =

@@ -1,4 +1,4 @@
--- Document 01, "Hand-worked models": the models A to H and what the paper says of each, as one table; models of our own beside it,
+-- Document 01, "Hand-worked models": the models A to H and what it says of each, as one table; models of our own beside it,
 -- which see errors that A to H do not. That the definitions give just this is proved in proofs/HandWorked.
 use Prim.Native.Nat.{ℕ, _+_, _*_, _^_}
 use mathlib.Core.List.{List, [], _∷_}

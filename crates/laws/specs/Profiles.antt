@@ -30,8 +30,8 @@ pub data Verdict : Type 0 where
   covered : Verdict
   uncovered : Word → Word → Verdict
 
--- WHAT A RIGHT VERDICT IS, over k events: "covered" exactly if every course is accepted; otherwise u and v are a course with no
--- accepting run
+-- WHAT A RIGHT VERDICT IS, over k events: "covered" exactly if every course is accepted; otherwise u and v are a course that is not
+-- accepted
 pub record RightVerdict {S : Type 0} (M : Machine S) (k : ℕ) (answer : Verdict) : Type 0 where
   pub covered-accepts : answer ≡ covered → (u v : Word) → Course k u v → Accepted M u v
   pub accepts-covered : ((u v : Word) → Course k u v → Accepted M u v) → answer ≡ covered
