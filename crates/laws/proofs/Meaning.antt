@@ -9,17 +9,17 @@ use mathlib.Core.List.{[], _∷_, _++_, append-assoc, append-nil}
 use mathlib.Core.Option.{Option, none, some}
 use lib.ListN.{getD}
 use lib.Dec.{ltb}
-use borrow.Author.Tests.{ltb-true, ltb-false}
+use borrow.Author.Tests.{ltb-true}
 use Rattle.laws.specs.Bits.{bit, cell, someBelow}
 use Rattle.laws.specs.Words.{Word, empty}
 use Rattle.laws.specs.Model.{Machine, Path, stop, step, homed, Model, isState, leads, machine, Within}
 use Rattle.laws.specs.Profiles.{Profile, marked, join, image, markedPath, startSet, after, setFrom, setOf, SetMeans}
 use Rattle.laws.specs.Profiles.{eventProfile, nextProfile, profileFrom, profileOf, ProfileMeans}
-use Rattle.laws.proofs.Booleans.{or-left, or-right, or-cases, both, and-left, same-test, never, either, some-below, below-both}
+use Rattle.laws.proofs.Booleans.{or-left, or-right, or-cases, both, and-left, same-test, never, some-below, below-both}
 use Rattle.laws.proofs.Booleans.{inside, not-nothing}
-use Rattle.laws.proofs.Packing.{bit-fromBits, fromBits-below, bit-beyond, same-numbers}
-use Rattle.laws.proofs.Joins.{Small, Via, join-leads, leads-via, join-marks, marks-via, small-equal, join-assoc, image-join, event-small, join-small}
-use Rattle.laws.proofs.Joins.{leads-event, marked-event, after-event}
+use Rattle.laws.proofs.Packing.{bit-fromBits, fromBits-below, bit-inside, same-numbers}
+use Rattle.laws.proofs.Joins.{Small, Via, join-leads, leads-via, join-marks, marks-via, small-equal, join-assoc, image-join}
+use Rattle.laws.proofs.Joins.{event-small, join-small, leads-event, marked-event, after-event}
 use Rattle.laws.proofs.Paths.{then, cut, HomePath, first-home}
 
 -- the states of a model with at most W states are below W
@@ -256,11 +256,6 @@ module _ (W : ℕ) (M : Machine ℕ) where
     unfolding after
     after-bit P a q h = bit-fromBits W (λ q. someBelow W (from P a q)) q h
 
-    -- a number of W bits has no state from W on
-    in-below : (P q : ℕ) → P < 2 ^ W → bit P q ≡ true → q < W
-    in-below P q h b =
-        ⊎-elim (ltb-true q W) (λ l. never (sym (bit-beyond W P q h (ltb-false q W l)) ∙ b)) (either (ltb q W))
-
     -- what a path reaches from a state of P is in the set that its word makes of P
     set-reached : (P : ℕ) (w : Word) {p q : ℕ} → bit P p ≡ true → Path M p w q → bit (setFrom W M P w) q ≡ true
     unfolding setFrom
@@ -276,7 +271,7 @@ module _ (W : ℕ) (M : Machine ℕ) where
     set-only-reached P h [] q b = (q, b, stop)
     set-only-reached P h (a ∷ w) q b =
         let (r, r-in, s) = set-only-reached (after W M P a) (after-below P a) w q b in
-        let r-below = in-below (after W M P a) r (after-below P a) r-in in
+        let r-below = bit-inside W (after W M P a) r (after-below P a) r-in in
         let (p, _, p-in, e) = below-both (bit P) (λ p. M .arrow p a r) W (sym (after-bit P a r r-below) ∙ r-in) in
         (p, p-in, step e s)
 
@@ -289,7 +284,7 @@ module _ (W : ℕ) (M : Machine ℕ) where
           only-reached = λ q b.
               let small = fromBits-below W (M .start) in
               let (p, p-in, s) = set-only-reached (startSet W M) small w q b in
-              (p, sym (bit-fromBits W (M .start) p (in-below (startSet W M) p small p-in)) ∙ p-in, s);
+              (p, sym (bit-fromBits W (M .start) p (bit-inside W (startSet W M) p small p-in)) ∙ p-in, s);
         }
 
   -- no second number means the same paths: neither for a set

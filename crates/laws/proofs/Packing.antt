@@ -1,15 +1,16 @@
 -- Numbers as bits, over any width: the number with given bits has them and no others, and a number is given by its bits.
 use Prim.Native.Nat.{ℕ, zero, suc, _+_, _*_, _-_, _/_, _%_, _^_, _<_, _≤_}
 use native.Mathlib.Omega.{arith}
-use native.Mathlib.Nat.{pow-succ', div-one, div-div-eq-div-mul, mul-suc, mul-le-mul-left, mul-add-div, div-eq-of-lt, mul-add-mod-self-left, add-comm, pow-le-pow-right}
-use native.Mathlib.Nat.{mod-eq-of-lt, div-lt-iff-lt-mul, mod-lt, div-add-mod}
+use native.Mathlib.Nat.{add-comm, mul-suc, mul-le-mul-left, pow-succ', pow-le-pow-right, div-one, div-div-eq-div-mul, mul-add-div}
+use native.Mathlib.Nat.{div-eq-of-lt, div-lt-iff-lt-mul, mul-add-mod-self-left, mod-eq-of-lt, mod-lt, div-add-mod}
 use mathlib.Core.Path.{_≡_, refl, sym, ap, ap₂, _∙_, subst}
 use mathlib.Core.Bool.{Bool, true, false, cond}
-use native.Mathlib.Numerals.{add-one}
+use mathlib.Core.Logic.{⊎-elim}
 use lib.Pow.{field, mod-mod-pow, shr-shr}
-use lib.Dec.{eqb}
-use borrow.Author.Tests.{eqb-true, eqb-false, eq-eqb, ne-eqb}
+use lib.Dec.{eqb, ltb}
+use borrow.Author.Tests.{ltb-true, ltb-false, eqb-true, eqb-false, eq-eqb, ne-eqb}
 use Rattle.laws.specs.Bits.{bit, fromBits, cell, grid, packedRow}
+use Rattle.laws.proofs.Booleans.{never, either}
 
 -- bit 0 is the remainder by two
 bit-zero : (x : ℕ) → bit x 0 ≡ eqb (x % 2) 1
@@ -51,11 +52,15 @@ fromBits-below (suc N) f = go (f 0) (fromBits N (λ i. f (suc i))) (fromBits-bel
     go false y l = omega (arith, pow-succ' 2 N)
 
 -- a number below 2^N has no bit from N on
-pub bit-beyond : (N x i : ℕ) → x < 2 ^ N → N ≤ i → bit x i ≡ false
+bit-beyond : (N x i : ℕ) → x < 2 ^ N → N ≤ i → bit x i ≡ false
 bit-beyond zero x zero h l = bit-zero x ∙ ne-eqb (x % 2) 1 (λ e. omega arith)
 bit-beyond zero x (suc i) h l = bit-suc x i ∙ bit-beyond zero (x / 2) i (omega arith) (omega arith)
 bit-beyond (suc N) x zero h l = absurd (omega arith)
 bit-beyond (suc N) x (suc i) h l = bit-suc x i ∙ bit-beyond N (x / 2) i (omega (arith, pow-succ' 2 N)) (omega arith)
+
+-- so its bits lie below N
+pub bit-inside : (N x i : ℕ) → x < 2 ^ N → bit x i ≡ true → i < N
+bit-inside N x i h b = ⊎-elim (ltb-true i N) (λ e. never (sym (bit-beyond N x i h (ltb-false i N e)) ∙ b)) (either (ltb i N))
 
 -- two numbers below 2^N with the same bits are equal
 pub same-bits : (N x y : ℕ) → x < 2 ^ N → y < 2 ^ N → ((i : ℕ) → i < N → bit x i ≡ bit y i) → x ≡ y
@@ -141,19 +146,15 @@ module _ (W : ℕ) where
       same-bits (W * W) x y hx hy
       (λ i l. subst (λ j. bit x j ≡ bit y j) (div-add-mod i W) (h (i / W) (i % W) (row-below i l) (column-below i l)))
 
--- a number above 2^N has the bits of its remainder below N
+-- below N a number has the bits of its remainder by 2^N
 low-bits : (N x i : ℕ) → i < N → bit (x % 2 ^ N) i ≡ bit x i
 unfolding bit
 low-bits N x i h =
     let j : ℕ = N - suc i in
-    let width : N ≡ suc j + i = omega arith in
-    ap (λ (y : ℕ). eqb y 1)
-    (ap (λ M. x % 2 ^ M / 2 ^ i % 2) width ∙ ap (λ (y : ℕ). y % 2) (field x (suc j) i) ∙ ap (λ M. x / 2 ^ i % 2 ^ M % 2) (sym (add-one j)) ∙ mod-mod-pow (x / 2 ^ i) j 1)
+    let width : N ≡ j + 1 + i = omega arith in
+    rw (width, field x (j + 1) i, mod-mod-pow (x / 2 ^ i) j 1)
 
 -- row p of a packed number has the bits of p
 pub row-bit : (W x p q : ℕ) → q < W → bit (packedRow W x p) q ≡ cell W x p q
 unfolding packedRow cell bit
-row-bit W x p q h = low-bits W (x / 2 ^ (W * p)) q h ∙ shifted-bit x (W * p) q
-  where
-    shifted-bit : (x s i : ℕ) → bit (x / 2 ^ s) i ≡ bit x (s + i)
-    shifted-bit x s i = ap (λ (y : ℕ). eqb (y % 2) 1) (shr-shr x s i)
+row-bit W x p q h = low-bits W (x / 2 ^ (W * p)) q h ∙ rw shr-shr

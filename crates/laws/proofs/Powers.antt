@@ -35,7 +35,8 @@ module _ {A : Type 0} (op : A → A → A) where
     unchanged-later t s a (suc c) e = rw (suc-add, assoc, unchanged-later t s a c e)
 
     -- where t^(d+1) changes nothing behind t^(a+1), the power (a+1)(d+1) joined with itself is itself
-    idempotent-at : (t : A) (a d : ℕ) → op (times op a t) (times op d t) ≡ times op a t → (n : ℕ) × (op (times op n t) (times op n t) ≡ times op n t)
+    idempotent-at : (t : A) (a d : ℕ) → op (times op a t) (times op d t) ≡ times op a t
+        → (n : ℕ) × (op (times op n t) (times op n t) ≡ times op n t)
     idempotent-at t a d e =
         let n = a * suc d + d in
         let late : n ≡ (a * d + d) + a = omega (arith, mul-suc a d) in

@@ -12,8 +12,8 @@ use Rattle.laws.specs.Bits.{times}
 use Rattle.laws.specs.Words.{Word, power, empty}
 use Rattle.laws.specs.Model.{Machine, Path, homed, Accepted, Course, Kind, Model, machine, Within}
 use Rattle.laws.specs.Tables.{WordValue, Entry, noEntry, noEvent, Holds, Table, UpTo, Steps, Codes, Closes, wordOf}
-use Rattle.laws.specs.Profiles.{Profile, values, marked, join, image, startSet, setOf, SetMeans, eventProfile, profileOf, ProfileMeans}
-use Rattle.laws.specs.Profiles.{setValue, profileValue, HoldsSets, HoldsProfiles}
+use Rattle.laws.specs.Profiles.{Profile, values, marked, join, image, startSet, setOf, SetMeans, eventProfile, profileOf}
+use Rattle.laws.specs.Profiles.{ProfileMeans, setValue, profileValue, HoldsSets, HoldsProfiles}
 use Rattle.laws.specs.Profiles.{isRejecting, FirstPair, Verdict, covered, uncovered, RightVerdict, verdict}
 use Rattle.laws.specs.Opposite.{Arrow, sorted, written, blockProfiles, flags, stateCount, arrows, arrowCount, opposite, Opposed}
 use Rattle.laws.specs.Refusals.{firstOf, modelChecks}
@@ -35,7 +35,8 @@ use Rattle.laws.proofs.Opposites.{opposed}
 use Rattle.laws.proofs.Sorted.{arrows-sorted}
 use Rattle.laws.proofs.Counts.{arrows-counted, states-counted, arrows-inside}
 use Rattle.laws.proofs.Unrefused.{unrefused, start-mask, event-arrows}
-use Rattle.laws.proofs.Answered.{closing-whole, four-exactly, five-exactly, verdict-answers, six-exactly, opposite-answers, seven-exactly}
+use Rattle.laws.proofs.Answered.{closing-whole, four-exactly, five-exactly, verdict-answers, six-exactly}
+use Rattle.laws.proofs.Answered.{opposite-answers, seven-exactly}
 
 -- The theorems speak of machines with states below W. Every model with at most W states is one
 pub every-model : (W : ℕ) (m : Model) → m .n ≤ W → Within W (machine W m)
