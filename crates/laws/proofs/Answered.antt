@@ -1,21 +1,26 @@
--- Demands 2 and 3 as the answers have them: with number 0 the tables in an answer hold all sets and profiles, its verdict is right, and its
--- flags and arrows are an opposite; 4, 5, 6 and 7 are given exactly when there is more than room.
+-- What the answers are, case by case, in terms of complete tables: the number, what stands in the tables, the verdict, and the opposite.
+-- The cases are all there are, and no two give the same number but the two of the verdict with number 0. So each number is given exactly
+-- when it is listed; and with number 0 demands 2 and 3 hold.
 use Prim.Native.Nat.{ℕ, zero, suc, _<_, _≤_}
 use native.Mathlib.Omega.{arith}
-use mathlib.Core.Path.{_≡_, refl, ap}
+use mathlib.Core.Path.{_≡_, refl, sym, ap, _∙_}
 use mathlib.Core.Bool.{Bool, true, false, _||_}
-use mathlib.Core.Logic.{_⊎_, _↔_, inl, inr, ⊎-elim}
-use mathlib.Core.List.{List}
-use mathlib.Core.Option.{some}
-use lib.ListN.{length, length-take}
+use mathlib.Core.Logic.{_⊎_, ⊎-elim}
+use mathlib.Core.List.{List, [], _++_}
+use mathlib.Core.Option.{none, some}
+use lib.ListN.{length, take, length-take}
+use lib.Seq.{take-all}
 use lib.Dec.{ltb}
-use borrow.Author.Tests.{ltb-true, ltb-false}
+use borrow.Author.Tests.{lt-ltb, le-ltb}
+use Rattle.laws.specs.Words.{Word}
 use Rattle.laws.specs.Model.{Kind, Machine, Model, machine}
 use Rattle.laws.specs.Tables.{Entry, Table, UpTo, noEntry, noEvent}
 use Rattle.laws.specs.Refusals.{firstOf, modelChecks}
-use Rattle.laws.specs.Profiles.{Profile, Verdict, RightVerdict, verdict, values, HoldsSets, HoldsProfiles, setTable, profileTable}
-use Rattle.laws.specs.Opposite.{written, blockProfiles, stateCount, arrowCount, opposite, Opposed}
-use Rattle.laws.specs.Answers.{ClosingAnswer, closingAnswer, words, verdictAnswer, oppositeAnswer}
+use Rattle.laws.specs.Profiles.{Profile, Verdict, covered, uncovered, RightVerdict, verdict, values}
+use Rattle.laws.specs.Profiles.{HoldsSets, HoldsProfiles, setTable, profileTable}
+use Rattle.laws.specs.Opposite.{written, blockProfiles, flags, stateCount, arrows, arrowCount, opposite, Opposed}
+use Rattle.laws.specs.Answers.{ClosingAnswer, closingAnswer, uAndV, words, verdictAnswer, oppositeAnswer, CourseAnswer}
+use Rattle.laws.proofs.Booleans.{or-left, or-right, same-test}
 use Rattle.laws.proofs.Tables.{up-to}
 use Rattle.laws.proofs.Complete.{set-steps, profile-steps, sets-closing, profiles-closing}
 use Rattle.laws.proofs.Meaning.{machine-within}
@@ -23,17 +28,7 @@ use Rattle.laws.proofs.Verdicts.{verdict-right}
 use Rattle.laws.proofs.Opposites.{opposed}
 use Rattle.laws.proofs.Unrefused.{Unrefused, unrefused}
 
--- a table up to a room has no more entries than room
-up-to-fits : {Value : Type 0} {room : ℕ} {complete : List (Entry Value)} {t : Table Value} → UpTo room complete t
-    → length (t .entries) ≤ room
-up-to-fits {room = room} {complete = complete} u = omega (arith, ap length (u .first), length-take room complete)
-
--- 4 if the set table is cut, else 5 if the profile table is
-abbrev cutNumber : Bool → Bool → ℕ
-cutNumber true t = 4
-cutNumber false true = 5
-cutNumber false false = 0
-
+-- a and b are the rooms for sets and profiles; W and M are the model's, S and T its tables made with these rooms, and C the answer of closing
 module _ (K : Kind) (m : Model) (a b : ℕ) where
   abbrev W : ℕ
   W = K .states
@@ -50,14 +45,48 @@ module _ (K : Kind) (m : Model) (a b : ℕ) where
   abbrev C : ClosingAnswer
   C = closingAnswer K m a b
 
-  -- unless the model is refused, the number is given by what is cut
-  closing-number : {s t : Bool} → firstOf (modelChecks K m) .number ≡ 0 → S .cut ≡ s → T .cut ≡ t → C .number ≡ cutNumber s t
+  -- CLOSING. After 1, 2 or 3 both tables are empty
+  pub closing-refused : (n : ℕ) → firstOf (modelChecks K m) .number ≡ suc n → C ≡ record { number = suc n; sets = []; profiles = [] }
   unfolding closingAnswer
-  closing-number {s = true} f p q = rw (f, p, closingAnswer)
-  closing-number {s = false} {t = true} f p q = rw (f, p, q, closingAnswer)
-  closing-number {s = false} {t = false} f p q = rw (f, p, q, closingAnswer)
+  closing-refused n f = rw (f, closingAnswer)
 
-  -- the tables of an answer hold all sets and profiles of a model that is not refused, within their rooms
+  module _ (passes : firstOf (modelChecks K m) .number ≡ 0) (sets : List (Entry ℕ)) (hs : HoldsSets W M (m .k) sets) where
+    -- the set table is the first part of all sets, cut exactly if there are more than room
+    sets-made : UpTo a sets S
+    unfolding setTable
+    sets-made = up-to (set-steps W M) sets hs a
+
+    -- 4 where there are more sets than room: as many as there is room, and no profile
+    pub closing-4 : a < length sets → C ≡ record { number = 4; sets = take a sets; profiles = [] }
+    unfolding closingAnswer
+    closing-4 l = rw (passes, sets-made .cut ∙ lt-ltb a (length sets) l, sets-made .first, closingAnswer)
+
+    module _ (fits : length sets ≤ a) (profiles : List (Entry Profile)) (hp : HoldsProfiles W M (m .k) profiles) where
+      -- where the sets fit they are all there, and the profile table is the first part of all profiles
+      sets-uncut : S .cut ≡ false
+      sets-uncut = sets-made .cut ∙ le-ltb a (length sets) fits
+
+      sets-all : S .entries ≡ sets
+      sets-all = sets-made .first ∙ take-all a sets fits
+
+      profiles-made : UpTo b profiles T
+      unfolding profileTable
+      profiles-made = up-to (profile-steps W M) profiles hp b
+
+      -- 5 where there are more profiles than room: all sets, and as many profiles as there is room
+      pub closing-5 : b < length profiles → C ≡ record { number = 5; sets = sets; profiles = take b profiles }
+      unfolding closingAnswer
+      closing-5 l =
+          rw (passes, sets-uncut, profiles-made .cut ∙ lt-ltb b (length profiles) l, sets-all, profiles-made .first, closingAnswer)
+
+      -- 0 where these fit too: both tables complete
+      pub closing-0 : length profiles ≤ b → C ≡ record { number = 0; sets = sets; profiles = profiles }
+      unfolding closingAnswer
+      closing-0 l =
+          let uncut = profiles-made .cut ∙ le-ltb b (length profiles) l in
+          rw (passes, sets-uncut, uncut, sets-all, profiles-made .first ∙ take-all b profiles l, closingAnswer)
+
+  -- the tables of an answer hold all sets and profiles of a model that is not refused with 1, 2 or 3, within their rooms
   pub record Whole (c : ClosingAnswer) : Type 0 where
     pub model : Unrefused K m
     pub sets-hold : HoldsSets W M (m .k) (c .sets)
@@ -65,15 +94,19 @@ module _ (K : Kind) (m : Model) (a b : ℕ) where
     pub sets-fit : length (c .sets) ≤ a
     pub profiles-fit : length (c .profiles) ≤ b
 
-  -- CLOSING with number 0 gives such tables
+  -- with number 0 closing gives such tables
   pub closing-whole : C .number ≡ 0 → Whole C
   unfolding closingAnswer setTable profileTable
   closing-whole h = go (firstOf (modelChecks K m) .number) (S .cut) (T .cut) refl refl refl
     where
+      fits : {Value : Type 0} {room : ℕ} {complete : List (Entry Value)} {t : Table Value} → UpTo room complete t
+          → length (t .entries) ≤ room
+      fits {room = room} {complete = complete} u = omega (arith, ap length (u .first), length-take room complete)
+
       go : (n : ℕ) (s t : Bool) → firstOf (modelChecks K m) .number ≡ n → S .cut ≡ s → T .cut ≡ t → Whole C
       go (suc n) s t f p q = absurd (omega (arith, rw (f, closingAnswer) at h))
-      go zero true t f p q = absurd (omega (arith, closing-number f p q))
-      go zero false true f p q = absurd (omega (arith, closing-number f p q))
+      go zero true t f p q = absurd (omega (arith, rw (f, p, closingAnswer) at h))
+      go zero false true f p q = absurd (omega (arith, rw (f, p, q, closingAnswer) at h))
       go zero false false f p q =
           let sets = sets-closing W M (m .k) in
           let profiles = profiles-closing W M (m .k) in
@@ -82,74 +115,58 @@ module _ (K : Kind) (m : Model) (a b : ℕ) where
             model = unrefused K m f;
             sets-hold = sets .uncut a p;
             profiles-hold = profiles .uncut b q;
-            sets-fit = up-to-fits (sets .up-to-room a);
-            profiles-fit = up-to-fits (profiles .up-to-room b);
+            sets-fit = fits (sets .up-to-room a);
+            profiles-fit = fits (profiles .up-to-room b);
           })
 
-  module _ (passes : firstOf (modelChecks K m) .number ≡ 0) (sets : List (Entry ℕ)) (hs : HoldsSets W M (m .k) sets) where
-    -- the set table is cut exactly if there are more sets than room
-    sets-cut : S .cut ≡ ltb a (length sets)
-    unfolding setTable
-    sets-cut = up-to (set-steps W M) sets hs a .cut
-
-    -- 4 EXACTLY if there are more sets than room
-    pub four-exactly : (C .number ≡ 4) ↔ (a < length sets)
-    four-exactly = rw (closing-number passes sets-cut refl) (go (ltb a (length sets)) (T .cut) refl)
-      where
-        go : (s t : Bool) → ltb a (length sets) ≡ s → (cutNumber s t ≡ 4) ↔ (a < length sets)
-        go true t e = ((λ _. ltb-true a (length sets) e), (λ _. refl))
-        go false true e = ((λ h. omega arith), (λ h. omega (arith, ltb-false)))
-        go false false e = ((λ h. omega arith), (λ h. omega (arith, ltb-false)))
-
-    -- 5 EXACTLY if there is room for the sets and more profiles than room
-    pub five-exactly : (profiles : List (Entry Profile)) → HoldsProfiles W M (m .k) profiles
-        → (C .number ≡ 5) ↔ ((length sets ≤ a) × (b < length profiles))
-    unfolding profileTable
-    five-exactly profiles hp =
-        rw (closing-number passes sets-cut profiles-cut) (go (ltb a (length sets)) (ltb b (length profiles)) refl refl)
-      where
-        profiles-cut : T .cut ≡ ltb b (length profiles)
-        profiles-cut = up-to (profile-steps W M) profiles hp b .cut
-
-        go : (s t : Bool) → ltb a (length sets) ≡ s → ltb b (length profiles) ≡ t
-            → (cutNumber s t ≡ 5) ↔ ((length sets ≤ a) × (b < length profiles))
-        go true t e f = ((λ h. absurd (omega arith)), (λ h. omega (arith, ltb-true)))
-        go false true e f = ((λ _. (ltb-false a (length sets) e, ltb-true b (length profiles) f)), (λ _. refl))
-        go false false e f = ((λ h. absurd (omega arith)), (λ h. omega (arith, ltb-false)))
-
-  -- the verdict on the closed tables, and how long its words are
+  -- the verdict on the closed tables
   abbrev x : Verdict
   x = verdict W (C .sets) (C .profiles)
 
-  abbrev long : ℕ
-  long = length (words (some x))
+  module _ (w : ℕ) where
+    -- THE VERDICT. After a refusal of closing: its number and tables, and no verdict
+    pub verdict-refused : (n : ℕ) → C .number ≡ suc n
+        → verdictAnswer K m a b w ≡ record { number = suc n; sets = C .sets; profiles = C .profiles; verdict = none }
+    unfolding verdictAnswer
+    verdict-refused n e = rw (e, verdictAnswer)
 
-  -- THE VERDICT with number 0 is right
-  pub verdict-answers : (w : ℕ) → a ≤ suc noEntry → b ≤ suc noEntry → K .events ≤ noEvent → verdictAnswer K m a b w .number ≡ 0
-      → (y : Verdict) × (verdictAnswer K m a b w .verdict ≡ some y) × RightVerdict M (m .k) y
-  unfolding verdictAnswer
-  verdict-answers w la lb lk h = go (C .number) (ltb w long) refl refl
-    where
-      right : C .number ≡ 0 → RightVerdict M (m .k) x
-      right e =
-          let c = closing-whole e in
-          verdict-right W M (machine-within W m (c .model .n-most)) (m .k) (C .sets) (C .profiles)
-          (c .sets-hold) (c .profiles-hold) (omega arith) (omega arith) (omega arith)
+    module _ (closed : C .number ≡ 0) where
+      -- 0 where the verdict is "covered"
+      pub verdict-covered : x ≡ covered
+          → verdictAnswer K m a b w ≡ record { number = 0; sets = C .sets; profiles = C .profiles; verdict = some covered }
+      unfolding verdictAnswer words uAndV
+      verdict-covered e = rw (closed, e, le-ltb w 0 (omega arith), verdictAnswer, e)
 
-      go : (n : ℕ) (l : Bool) → C .number ≡ n → ltb w long ≡ l
-          → (y : Verdict) × (verdictAnswer K m a b w .verdict ≡ some y) × RightVerdict M (m .k) y
-      go (suc n) l e f = absurd (omega (arith, rw (e, verdictAnswer) at h))
-      go zero true e f = absurd (omega (arith, rw (e, f, verdictAnswer) at h))
-      go zero false e f = (x, rw (e, f, verdictAnswer), right e)
+      module _ (u v : Word) (e : x ≡ uncovered u v) where
+        -- 6 where it is "uncovered" and u and v together exceed the word memory
+        pub verdict-6 : w < length (u ++ v)
+            → verdictAnswer K m a b w ≡ record { number = 6; sets = C .sets; profiles = C .profiles; verdict = none }
+        unfolding verdictAnswer words uAndV
+        verdict-6 l = rw (closed, e, lt-ltb w (length (u ++ v)) l, verdictAnswer)
 
-  -- after closing without refusal 6 is given EXACTLY if u and v together exceed the word memory
-  pub six-exactly : (w : ℕ) → C .number ≡ 0 → (verdictAnswer K m a b w .number ≡ 6) ↔ (w < length (words (some x)))
-  unfolding verdictAnswer
-  six-exactly w h = go (ltb w long) refl
-    where
-      go : (l : Bool) → ltb w long ≡ l → (verdictAnswer K m a b w .number ≡ 6) ↔ (w < long)
-      go true e = ((λ _. ltb-true w long e), (λ _. rw (h, e, verdictAnswer)))
-      go false e = ((λ t. omega (arith, rw (h, e, verdictAnswer) at t)), (λ l. omega (arith, ltb-false)))
+        -- 0 where they do not
+        pub verdict-uncovered : length (u ++ v) ≤ w
+            → verdictAnswer K m a b w ≡ record { number = 0; sets = C .sets; profiles = C .profiles; verdict = some (uncovered u v) }
+        unfolding verdictAnswer words uAndV
+        verdict-uncovered l = rw (closed, e, le-ltb w (length (u ++ v)) l, verdictAnswer, e)
+
+    -- DEMAND 2: with number 0 the verdict is that of the tables, and it is right
+    pub verdict-answers : a ≤ suc noEntry → b ≤ suc noEntry → K .events ≤ noEvent → verdictAnswer K m a b w .number ≡ 0
+        → (verdictAnswer K m a b w .verdict ≡ some x) × RightVerdict M (m .k) x
+    unfolding verdictAnswer
+    verdict-answers la lb lk h = go (C .number) (ltb w (length (words (some x)))) refl refl
+      where
+        right : C .number ≡ 0 → RightVerdict M (m .k) x
+        right e =
+            let c = closing-whole e in
+            verdict-right W M (machine-within W m (c .model .n-most)) (m .k) (C .sets) (C .profiles)
+            (c .sets-hold) (c .profiles-hold) (omega arith) (omega arith) (omega arith)
+
+        go : (n : ℕ) (l : Bool) → C .number ≡ n → ltb w (length (words (some x))) ≡ l
+            → (verdictAnswer K m a b w .verdict ≡ some x) × RightVerdict M (m .k) x
+        go (suc n) l e f = absurd (omega (arith, rw (e, verdictAnswer) at h))
+        go zero true e f = absurd (omega (arith, rw (e, f, verdictAnswer) at h))
+        go zero false e f = (rw (e, f, verdictAnswer), right e)
 
   -- the sets, profiles and blocks that the opposite is made from, and its counted states and arrows
   abbrev Ps : List ℕ
@@ -164,34 +181,60 @@ module _ (K : Kind) (m : Model) (a b : ℕ) where
   abbrev states : ℕ
   states = stateCount Ps ts bs
 
-  abbrev arrows : ℕ
-  arrows = arrowCount W M (m .k) Ps ts bs
+  abbrev lines : ℕ
+  lines = arrowCount W M (m .k) Ps ts bs
 
-  -- THE OPPOSITE with number 0: of every course exactly one of the model and the machine read from its flags and arrows accepts
-  pub opposite-answers : (s r : ℕ) → oppositeAnswer K m a b s r .number ≡ 0
-      → Opposed M (written (oppositeAnswer K m a b s r .flags) (oppositeAnswer K m a b s r .arrows)) (m .k)
-  unfolding oppositeAnswer opposite
-  opposite-answers s r h = go (C .number) (ltb s states || ltb r arrows) refl refl
-    where
-      go : (n : ℕ) (l : Bool) → C .number ≡ n → (ltb s states || ltb r arrows) ≡ l
-          → Opposed M (written (oppositeAnswer K m a b s r .flags) (oppositeAnswer K m a b s r .arrows)) (m .k)
-      go (suc n) l e f = absurd (omega (arith, rw (e, oppositeAnswer) at h))
-      go zero true e f = absurd (omega (arith, rw (e, f, oppositeAnswer) at h))
-      go zero false e f =
-          let c = closing-whole e in
-          let within = machine-within W m (c .model .n-most) in
-          rw (e, f, oppositeAnswer) (opposed W M (m .k) (C .sets) (C .profiles) (c .sets-hold) (c .profiles-hold) within)
+  module _ (s r : ℕ) where
+    -- THE OPPOSITE. After a refusal of closing: its number and tables, and nothing of the opposite
+    pub opposite-refused : (n : ℕ) → C .number ≡ suc n
+        → oppositeAnswer K m a b s r ≡ record { number = suc n; sets = C .sets; profiles = C .profiles; flags = []; arrows = [] }
+    unfolding oppositeAnswer
+    opposite-refused n e = rw (e, oppositeAnswer)
 
-  -- and 7 EXACTLY if the counted states or arrows exceed their room
-  pub seven-exactly : (s r : ℕ) → C .number ≡ 0
-      → (oppositeAnswer K m a b s r .number ≡ 7) ↔ ((s < stateCount Ps ts bs) ⊎ (r < arrowCount W M (m .k) Ps ts bs))
-  unfolding oppositeAnswer
-  seven-exactly s r h = go (ltb s states) (ltb r arrows) refl refl
-    where
-      go : (c d : Bool) → ltb s states ≡ c → ltb r arrows ≡ d → (oppositeAnswer K m a b s r .number ≡ 7) ↔ ((s < states) ⊎ (r < arrows))
-      go true d e f = ((λ _. inl (ltb-true s states e)), (λ _. rw (h, e, oppositeAnswer)))
-      go false true e f = ((λ _. inr (ltb-true r arrows f)), (λ _. rw (h, e, f, oppositeAnswer)))
-      go false false e f = (
-        (λ t. absurd (omega (arith, rw (h, e, f, oppositeAnswer) at t))),
-        ⊎-elim (λ l. omega (arith, ltb-false s states e)) (λ l. omega (arith, ltb-false r arrows f)),
-      )
+    module _ (closed : C .number ≡ 0) where
+      -- 7 where the counted states or arrows exceed their room
+      pub opposite-7 : (s < states) ⊎ (r < lines)
+          → oppositeAnswer K m a b s r ≡ record { number = 7; sets = C .sets; profiles = C .profiles; flags = []; arrows = [] }
+      unfolding oppositeAnswer
+      opposite-7 l =
+          let over : (ltb s states || ltb r lines) ≡ true =
+          ⊎-elim (λ t. or-left (ltb r lines) (lt-ltb s states t)) (λ t. or-right (ltb s states) (lt-ltb r lines t)) l in
+          rw (closed, over, oppositeAnswer)
+
+      -- 0 where they do not: the flags and the arrows
+      pub opposite-0 : states ≤ s → lines ≤ r
+          → oppositeAnswer K m a b s r ≡ record {
+            number = 0;
+            sets = C .sets;
+            profiles = C .profiles;
+            flags = flags Ps ts bs;
+            arrows = arrows W M (m .k) Ps ts bs;
+          }
+      unfolding oppositeAnswer
+      opposite-0 l k = rw (closed, le-ltb s states l, le-ltb r lines k, oppositeAnswer)
+
+    -- DEMAND 3: with number 0 of every course exactly one of the model and the machine read from its flags and arrows accepts
+    pub opposite-answers : oppositeAnswer K m a b s r .number ≡ 0
+        → Opposed M (written (oppositeAnswer K m a b s r .flags) (oppositeAnswer K m a b s r .arrows)) (m .k)
+    unfolding oppositeAnswer opposite
+    opposite-answers h = go (C .number) (ltb s states || ltb r lines) refl refl
+      where
+        go : (n : ℕ) (l : Bool) → C .number ≡ n → (ltb s states || ltb r lines) ≡ l
+            → Opposed M (written (oppositeAnswer K m a b s r .flags) (oppositeAnswer K m a b s r .arrows)) (m .k)
+        go (suc n) l e f = absurd (omega (arith, rw (e, oppositeAnswer) at h))
+        go zero true e f = absurd (omega (arith, rw (e, f, oppositeAnswer) at h))
+        go zero false e f =
+            let c = closing-whole e in
+            let within = machine-within W m (c .model .n-most) in
+            rw (e, f, oppositeAnswer) (opposed W M (m .k) (C .sets) (C .profiles) (c .sets-hold) (c .profiles-hold) within)
+
+-- ONE COURSE has one judgement
+pub one-judged : {K : Kind} {m : Model} {u v : Word} {n l : ℕ} {c d : Bool} → CourseAnswer K m u v n c → CourseAnswer K m u v l d
+    → (n ≡ l) × (c ≡ d)
+one-judged {K = K} {m = m} {u = u} {v = v} {n = n} {l = l} p q = (same, same-test (yes p q same) (yes q p (sym same)))
+  where
+    same : n ≡ l
+    same = p .number-is ∙ sym (q .number-is)
+
+    yes : {n l : ℕ} {c d : Bool} → CourseAnswer K m u v n c → CourseAnswer K m u v l d → n ≡ l → c ≡ true → d ≡ true
+    yes p q e h = q .yes-if (sym e ∙ p .yes-with-0 h) (p .yes-only-if h)

@@ -156,17 +156,17 @@ unfolding computed lent
 opposite-rooms = refl
 
 -- C's verdict in lent memory with four sets, five profiles and three bytes of room: what was written, and then what stood there
-c-sets : SetSlices
-c-sets = record { masks = lent 4; from = lent 4; event = lent 5 }
+lent-sets : SetSlices
+lent-sets = record { masks = lent 4; from = lent 4; event = lent 5 }
 
-c-profiles : ProfileSlices
-c-profiles = record { arrows = lent 5; marks = lent 5; from = lent 6; event = lent 5 }
+lent-profiles : ProfileSlices
+lent-profiles = record { arrows = lent 5; marks = lent 5; from = lent 6; event = lent 5 }
 
 -- the set slices, the profile slices and the word memory after the verdict
 afterVerdict : VerdictAnswer → List ℕ → SetSlices × ProfileSlices × List ℕ
-afterVerdict answer memory = (setSlices (answer .sets) c-sets, profileSlices (answer .profiles) c-profiles, wordMemory answer memory)
+afterVerdict answer memory = (setSlices (answer .sets) lent-sets, profileSlices (answer .profiles) lent-profiles, wordMemory answer memory)
 
-c-in-memory : afterVerdict (verdictIn eight C c-sets c-profiles (lent 3)) (lent 3)
+c-in-memory : afterVerdict (verdictIn eight C lent-sets lent-profiles (lent 3)) (lent 3)
     ≡ (
       record { masks = 1 ∷ 2 ∷ 9 ∷ 9 ∷ []; from = 65535 ∷ 0 ∷ 9 ∷ 9 ∷ []; event = 255 ∷ 0 ∷ 9 ∷ 9 ∷ 9 ∷ [] },
       record {
@@ -177,11 +177,11 @@ c-in-memory : afterVerdict (verdictIn eight C c-sets c-profiles (lent 3)) (lent 
       },
       1 ∷ 9 ∷ 9 ∷ [],
     )
-unfolding computed lent c-sets c-profiles afterVerdict
+unfolding computed lent lent-sets lent-profiles afterVerdict
 c-in-memory = refl
 
 -- D needs two bytes of word memory: with one, the tables are complete and the memory is untouched
-d-words : afterVerdict (verdictIn eight D c-sets c-profiles (lent 1)) (lent 1)
+d-words : afterVerdict (verdictIn eight D lent-sets lent-profiles (lent 1)) (lent 1)
     ≡ (
       record { masks = 1 ∷ 0 ∷ 9 ∷ 9 ∷ []; from = 65535 ∷ 0 ∷ 9 ∷ 9 ∷ []; event = 255 ∷ 0 ∷ 9 ∷ 9 ∷ 9 ∷ [] },
       record {
@@ -192,7 +192,7 @@ d-words : afterVerdict (verdictIn eight D c-sets c-profiles (lent 1)) (lent 1)
       },
       9 ∷ [],
     )
-unfolding computed lent c-sets c-profiles afterVerdict
+unfolding computed lent lent-sets lent-profiles afterVerdict
 d-words = refl
 
 -- each call goes by the room of its own slices: D needs 2 sets, 1 profile, 2 bytes, 2 states and 2 arrows
@@ -202,32 +202,32 @@ one-set = record { masks = lent 4; from = lent 4; event = lent 1 }
 no-profile : ProfileSlices
 no-profile = record { arrows = lent 4; marks = lent 0; from = lent 4; event = lent 4 }
 
-d-closing : closingIn eight D one-set c-profiles .number ∷ closingIn eight D c-sets no-profile .number ∷ closingIn eight D c-sets c-profiles .number ∷ []
+d-closing : closingIn eight D one-set lent-profiles .number ∷ closingIn eight D lent-sets no-profile .number ∷ closingIn eight D lent-sets lent-profiles .number ∷ []
     ≡ 4 ∷ 5 ∷ 0 ∷ []
-unfolding computed lent c-sets c-profiles one-set no-profile
+unfolding computed lent lent-sets lent-profiles one-set no-profile
 d-closing = refl
 
-d-verdict : verdictIn eight D one-set c-profiles (lent 2) .number
-    ∷ verdictIn eight D c-sets no-profile (lent 2) .number
-    ∷ verdictIn eight D c-sets c-profiles (lent 1) .number
-    ∷ verdictIn eight D c-sets c-profiles (lent 2) .number
+d-verdict : verdictIn eight D one-set lent-profiles (lent 2) .number
+    ∷ verdictIn eight D lent-sets no-profile (lent 2) .number
+    ∷ verdictIn eight D lent-sets lent-profiles (lent 1) .number
+    ∷ verdictIn eight D lent-sets lent-profiles (lent 2) .number
     ∷ []
     ≡ 4 ∷ 5 ∷ 6 ∷ 0 ∷ []
-unfolding computed lent c-sets c-profiles one-set no-profile
+unfolding computed lent lent-sets lent-profiles one-set no-profile
 d-verdict = refl
 
 -- the opposite's slices with room for so many arrows and states
 opposite-lent : ℕ → ℕ → OppositeSlices
 opposite-lent arrows states = record { from = lent arrows; event = lent 3; to = lent 3; flags = lent states }
 
-d-opposites : oppositeIn eight D one-set c-profiles (opposite-lent 2 2) .number
-    ∷ oppositeIn eight D c-sets no-profile (opposite-lent 2 2) .number
-    ∷ oppositeIn eight D c-sets c-profiles (opposite-lent 1 2) .number
-    ∷ oppositeIn eight D c-sets c-profiles (opposite-lent 2 1) .number
-    ∷ oppositeIn eight D c-sets c-profiles (opposite-lent 2 2) .number
+d-opposites : oppositeIn eight D one-set lent-profiles (opposite-lent 2 2) .number
+    ∷ oppositeIn eight D lent-sets no-profile (opposite-lent 2 2) .number
+    ∷ oppositeIn eight D lent-sets lent-profiles (opposite-lent 1 2) .number
+    ∷ oppositeIn eight D lent-sets lent-profiles (opposite-lent 2 1) .number
+    ∷ oppositeIn eight D lent-sets lent-profiles (opposite-lent 2 2) .number
     ∷ []
     ≡ 4 ∷ 5 ∷ 7 ∷ 7 ∷ 0 ∷ []
-unfolding computed lent c-sets c-profiles one-set no-profile opposite-lent
+unfolding computed lent lent-sets lent-profiles one-set no-profile opposite-lent
 d-opposites = refl
 
 -- u first
@@ -236,15 +236,15 @@ unfolding computed
 u-first = refl
 
 -- D's opposite in lent memory; with one state of room nothing of it is written
-d-opposite : OppositeSlices → OppositeSlices
-d-opposite l = let o = oppositeIn eight D c-sets c-profiles l in oppositeSlices (o .flags) (o .arrows) l
+d-memory : OppositeSlices → OppositeSlices
+d-memory l = let o = oppositeIn eight D lent-sets lent-profiles l in oppositeSlices (o .flags) (o .arrows) l
 
-d-in-memory : d-opposite (record { from = lent 3; event = lent 3; to = lent 2; flags = lent 4 })
+d-in-memory : d-memory (record { from = lent 3; event = lent 3; to = lent 2; flags = lent 4 })
     ≡ record { from = 0 ∷ 1 ∷ 9 ∷ []; event = 0 ∷ 0 ∷ 9 ∷ []; to = 1 ∷ 1 ∷ []; flags = 0 ∷ 1 ∷ 9 ∷ 9 ∷ [] }
-unfolding computed lent c-sets c-profiles d-opposite
+unfolding computed lent lent-sets lent-profiles d-memory
 d-in-memory = refl
 
-d-refused : d-opposite (record { from = lent 3; event = lent 3; to = lent 2; flags = lent 1 })
+d-refused : d-memory (record { from = lent 3; event = lent 3; to = lent 2; flags = lent 1 })
     ≡ record { from = lent 3; event = lent 3; to = lent 2; flags = lent 1 }
-unfolding computed lent c-sets c-profiles d-opposite
+unfolding computed lent lent-sets lent-profiles d-memory
 d-refused = refl

@@ -44,6 +44,6 @@ pub mod Numbered
 pub mod Opposites
 pub mod Sorted
 pub mod Counts
--- 7. the answers
+-- the answers, by the theorems
 pub mod Unrefused
 pub mod Answered

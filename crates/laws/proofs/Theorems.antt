@@ -3,21 +3,20 @@
 use Prim.Native.Nat.{ℕ, suc, _*_, _^_, _<_, _≤_}
 use native.Mathlib.Omega.{arith}
 use mathlib.Core.Path.{_≡_, refl, sym, ap, ap₂, _∙_}
-use mathlib.Core.Bool.{true, false}
+use mathlib.Core.Bool.{Bool, true, false}
 use mathlib.Core.Logic.{_↔_, _⊎_, ⊎-elim}
 use mathlib.Core.List.{List, [], _++_}
 use mathlib.Core.Option.{some}
-use lib.ListN.{length, getElem?, getD}
+use lib.ListN.{length, getElem?}
 use Rattle.laws.specs.Bits.{times}
 use Rattle.laws.specs.Words.{Word, power, empty}
 use Rattle.laws.specs.Model.{Machine, Path, homed, Accepted, Course, Kind, Model, machine, Within}
 use Rattle.laws.specs.Tables.{WordValue, Entry, noEntry, noEvent, Holds, Table, UpTo, Steps, Codes, Closes, wordOf}
-use Rattle.laws.specs.Profiles.{Profile, values, marked, join, image, startSet, setOf, SetMeans, eventProfile, profileOf}
+use Rattle.laws.specs.Profiles.{Profile, values, marked, join, image, setOf, SetMeans, profileOf}
 use Rattle.laws.specs.Profiles.{ProfileMeans, setValue, profileValue, HoldsSets, HoldsProfiles}
 use Rattle.laws.specs.Profiles.{isRejecting, FirstPair, Verdict, covered, uncovered, RightVerdict, verdict}
-use Rattle.laws.specs.Opposite.{Arrow, sorted, written, blockProfiles, flags, stateCount, arrows, arrowCount, opposite, Opposed}
-use Rattle.laws.specs.Refusals.{firstOf, modelChecks}
-use Rattle.laws.specs.Answers.{closingAnswer, words, verdictAnswer, oppositeAnswer}
+use Rattle.laws.specs.Opposite.{Arrow, sorted, blockProfiles, flags, stateCount, arrows, arrowCount, opposite, Opposed}
+use Rattle.laws.specs.Answers.{CourseAnswer}
 use Rattle.laws.proofs.Places.{place-below}
 use Rattle.laws.proofs.Members.{member}
 use Rattle.laws.proofs.Joins.{join-assoc}
@@ -34,11 +33,9 @@ use Rattle.laws.proofs.Verdicts.{covered-none, verdict-first, first-ver
 use Rattle.laws.proofs.Opposites.{opposed}
 use Rattle.laws.proofs.Sorted.{arrows-sorted}
 use Rattle.laws.proofs.Counts.{arrows-counted, states-counted, arrows-inside}
-use Rattle.laws.proofs.Unrefused.{unrefused, start-mask, event-arrows}
-use Rattle.laws.proofs.Answered.{closing-whole, four-exactly, five-exactly, verdict-answers, six-exactly}
-use Rattle.laws.proofs.Answered.{opposite-answers, seven-exactly}
+use Rattle.laws.proofs.Answered.{one-judged}
 
--- The theorems speak of machines with states below W. Every model with at most W states is one
+-- The theorems speak of machines, where needed with states below W. Every model with at most W states is one
 pub every-model : (W : ℕ) (m : Model) → m .n ≤ W → Within W (machine W m)
 every-model = machine-within
 
@@ -62,7 +59,7 @@ module _ (W : ℕ) (M : Machine ℕ) (within : Within W M) where
   )
 
 module _ (W : ℕ) (M : Machine ℕ) where
-  -- every word has a set; exactly the words of one event or more have a profile
+  -- exactly the words of one event or more have a profile
   pub which-words : (w : Word) → (empty w ≡ false) ↔ ((t : Profile) × (profileOf W M w ≡ some t))
   which-words w = (has-profile W M w, (λ t. profile-has W M w (t .0) (t .1)))
 
@@ -108,8 +105,8 @@ module _ (W : ℕ) (M : Machine ℕ) (k : ℕ) where
       → length (h .word i) ≤ length es
   profile-words es h i e at = omega (arith, word-short h i e at, place-below es i at)
 
--- predecessor and event rebuild the least word of every entry, of sets and profiles alike; for the numbers that stand for "none" it takes
--- at most 65,536 entries and at most 255 events
+-- predecessor and event rebuild the least word of every entry, of sets and profiles alike; since 65,535 and 255 stand for "none", there may
+-- be at most 65,536 entries and 255 events
 pub words-rebuilt : {Value : Type 0} {Val : WordValue Value} {k : ℕ} (es : List (Entry Value)) (h : Holds Val k es)
     → length es ≤ suc noEntry → k ≤ noEvent → (i : ℕ) (e : Entry Value) → getElem? es i ≡ some e → wordOf es i ≡ h .word i
 words-rebuilt es h = rebuilt-word h
@@ -201,51 +198,7 @@ module _ {S : Type 0} (M : Machine S) (k : ℕ) where
       → Accepted O u v → Accepted Q u v
   one-opposite O Q a b u v c h = ⊎-elim (λ m. absurd (a .not-both u v c m h)) (λ q. q) (b .one u v c)
 
--- 7. THE ANSWERS. Of a model that is not refused, the set of the empty word is the start mask, and the arrows of an event's profile are the
--- event's number
-module _ (K : Kind) (m : Model) (passes : firstOf (modelChecks K m) .number ≡ 0) where
-  pub start-is-mask : startSet (K .states) (machine (K .states) m) ≡ m .start
-  start-is-mask = start-mask K m (unrefused K m passes)
-
-  pub event-is-number : (a : ℕ) → a < m .k → eventProfile (K .states) (machine (K .states) m) a .arrows ≡ getD (m .arrows) a 0
-  event-is-number = event-arrows K m (unrefused K m passes)
-
-  -- closing gives 4 exactly if there are more sets than the room s, and 5 exactly if these fit and there are more profiles than t
-  pub four-is-exact : (s t : ℕ) (sets : List (Entry ℕ)) → HoldsSets (K .states) (machine (K .states) m) (m .k) sets
-      → (closingAnswer K m s t .number ≡ 4) ↔ (s < length sets)
-  four-is-exact s t = four-exactly K m s t passes
-
-  pub five-is-exact : (s t : ℕ) (sets : List (Entry ℕ)) → HoldsSets (K .states) (machine (K .states) m) (m .k) sets
-      → (profiles : List (Entry Profile)) → HoldsProfiles (K .states) (machine (K .states) m) (m .k) profiles
-      → (closingAnswer K m s t .number ≡ 5) ↔ ((length sets ≤ s) × (t < length profiles))
-  five-is-exact s t = five-exactly K m s t passes
-
-module _ (K : Kind) (m : Model) (s t : ℕ) where
-  -- with number 0 the tables that closing gives are complete
-  pub closing-is-complete : closingAnswer K m s t .number ≡ 0
-      → HoldsSets (K .states) (machine (K .states) m) (m .k) (closingAnswer K m s t .sets)
-      × HoldsProfiles (K .states) (machine (K .states) m) (m .k) (closingAnswer K m s t .profiles)
-  closing-is-complete h = let c = closing-whole K m s t h in (c .sets-hold, c .profiles-hold)
-
-  -- demand 2: a verdict given with number 0 is right; 6 is given exactly if u and v exceed the word memory
-  pub verdict-answer-is-right : (w : ℕ) → s ≤ suc noEntry → t ≤ suc noEntry → K .events ≤ noEvent → verdictAnswer K m s t w .number ≡ 0
-      → (x : Verdict) × (verdictAnswer K m s t w .verdict ≡ some x) × RightVerdict (machine (K .states) m) (m .k) x
-  verdict-answer-is-right = verdict-answers K m s t
-
-  pub six-is-exact : (w : ℕ) → let c = closingAnswer K m s t in c .number ≡ 0
-      → (verdictAnswer K m s t w .number ≡ 6) ↔ (w < length (words (some (verdict (K .states) (c .sets) (c .profiles)))))
-  six-is-exact = six-exactly K m s t
-
-  -- demand 3: what is written with number 0 is an opposite; 7 is given exactly if its counted states or arrows exceed their room
-  pub opposite-answer-is-opposed : (p q : ℕ) → let o = oppositeAnswer K m s t p q in o .number ≡ 0
-      → Opposed (machine (K .states) m) (written (o .flags) (o .arrows)) (m .k)
-  opposite-answer-is-opposed = opposite-answers K m s t
-
-  pub seven-is-exact : (p q : ℕ) → let c = closingAnswer K m s t in
-      let Ps = values (c .sets) in
-      let ts = values (c .profiles) in
-      let bs = blockProfiles (K .states) Ps ts in
-      c .number ≡ 0
-      → (oppositeAnswer K m s t p q .number ≡ 7)
-      ↔ ((p < stateCount Ps ts bs) ⊎ (q < arrowCount (K .states) (machine (K .states) m) (m .k) Ps ts bs))
-  seven-is-exact = seven-exactly K m s t
+-- the judgement of one course is one only
+pub one-judgement : {K : Kind} {m : Model} {u v : Word} {n l : ℕ} {c d : Bool} → CourseAnswer K m u v n c → CourseAnswer K m u v l d
+    → (n ≡ l) × (c ≡ d)
+one-judgement = one-judged

@@ -1,5 +1,5 @@
--- A model that is not refused: its numbers are in their ranges, and the sets and profiles of its machine begin with the numbers as they
--- were lent. The set of the empty word is the start mask, and the arrows of an event's profile are the event's number.
+-- A model that is not refused with 1, 2 or 3: its numbers are in their ranges, and its machine has them as they were lent. The set of the
+-- empty word is the start mask, the home states are the home mask's, and the arrows of an event's profile are the arrow number lent for it.
 use Prim.Native.Nat.{ℕ, zero, suc, _+_, _*_, _^_, _<_, _≤_}
 use native.Mathlib.Omega.{arith}
 use native.Mathlib.Nat.{pow-le-pow-right, mul-le-mul-left, lt-of-mul-lt-mul-left}
@@ -95,8 +95,13 @@ pub start-mask : (K : Kind) (m : Model) → Unrefused K m → startSet (K .state
 unfolding startSet machine isState
 start-mask K m u = mask-kept (K .states) (m .n) (m .start) (u .n-most) (u .start-below)
 
+-- the bits of the home states are the home mask as it was lent
+pub home-mask : (K : Kind) (m : Model) → Unrefused K m → fromBits (K .states) (machine (K .states) m .home) ≡ m .home
+unfolding machine isState
+home-mask K m u = mask-kept (K .states) (m .n) (m .home) (u .n-most) (u .home-below)
+
 module _ (W n x : ℕ) (inside : arrowsBeyond W n x ≡ false) where
-  -- an event's number with no bit for a state n or above is below 2^(W·n)
+  -- an arrow number with no bit for a state n or above is below 2^(W·n)
   number-below : x < 2 ^ (W * n)
   unfolding arrowsBeyond
   number-below = leb-false (2 ^ (W * n)) x (neither (leb (2 ^ (W * n)) x) _ inside .0)
@@ -130,7 +135,7 @@ module _ (W n x : ℕ) (inside : arrowsBeyond W n x ≡ false) where
       ∙ same-test (and-right (ltb p n && ltb q n && known) (cell W x p q))
       (λ e. both (both (both (lt-ltb p n (from-state p q e)) (lt-ltb q n (to-state p q hq e))) k) e))
 
--- THE ARROWS OF AN EVENT'S PROFILE are the event's number as it was lent
+-- THE ARROWS OF AN EVENT'S PROFILE are the arrow number lent for it
 pub event-arrows : (K : Kind) (m : Model) → Unrefused K m → (a : ℕ) → a < m .k
     → eventProfile (K .states) (machine (K .states) m) a .arrows ≡ getD (m .arrows) a 0
 unfolding eventProfile machine leads isState

@@ -115,14 +115,14 @@ pub record VerdictAnswer : Type 0 where
   pub verdict : Option Verdict
 
 -- u and v of an answer; "covered" and a refusal have two empty words
-unfoldable pub course : Option Verdict → Word × Word
-course none = ([], [])
-course (some covered) = ([], [])
-course (some (uncovered u v)) = (u, v)
+unfoldable pub uAndV : Option Verdict → Word × Word
+uAndV none = ([], [])
+uAndV (some covered) = ([], [])
+uAndV (some (uncovered u v)) = (u, v)
 
 -- what goes to the word memory: u and then v
 unfoldable pub words : Option Verdict → Word
-words r = course r .0 ++ course r .1
+words r = uAndV r .0 ++ uAndV r .1
 
 -- after closing without refusal, 6 if u and v together exceed the word memory
 unfoldable pub verdictAnswer : Kind → Model → ℕ → ℕ → ℕ → VerdictAnswer

@@ -82,7 +82,7 @@ machine W m =
       arrow = λ p a q. leads W m p a q;
     }
 
--- the states of a machine are below W
+-- THE STATES ARE BELOW W: start states, and both ends of every arrow
 pub record Within (W : ℕ) (M : Machine ℕ) : Type 0 where
   pub start-below : (p : ℕ) → M .start p ≡ true → p < W
   pub from-below : (p a q : ℕ) → M .arrow p a q ≡ true → p < W

@@ -41,7 +41,7 @@ outside limit x = ltb x 1 || ltb limit x
 unfoldable pub maskBeyond : ℕ → ℕ → Bool
 maskBeyond n x = leb (2 ^ n) x
 
--- an event's number has a bit for p, q where p or q is n or above: a bit in row n or above, or, in a row below, a
+-- an arrow number has a bit for p, q where p or q is n or above: a bit in row n or above, or, in a row below, a
 -- bit n or above
 unfoldable pub arrowsBeyond : ℕ → ℕ → ℕ → Bool
 arrowsBeyond W n x = leb (2 ^ (W * n)) x || someBelow n (λ p. maskBeyond n (packedRow W x p))
