@@ -9,7 +9,7 @@ use Rattle.laws.specs.Model.{Model, eight}
 use Rattle.laws.specs.Profiles.{Verdict, covered, uncovered}
 use Rattle.laws.specs.Answers.{VerdictAnswer, verdictAnswer}
 
--- one arrow of an event, p to q, and an event's number from its arrows
+-- one arrow of an event, p to q, and an event's arrow number from its arrows
 infix 68 _⇒_
 unfoldable pub _⇒_ : ℕ → ℕ → ℕ
 p ⇒ q = 2 ^ (8 * p + q)
