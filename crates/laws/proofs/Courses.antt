@@ -96,5 +96,5 @@ marks =
     ∷ []
 
 e-marks : marks ≡ true ∷ false ∷ true ∷ []
-unfolding computed marks markedPath
+unfolding computed marks
 e-marks = refl
