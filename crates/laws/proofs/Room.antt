@@ -15,14 +15,14 @@ use Rattle.laws.proofs.Entering.{cut-same, Entered, there, new, full, e
 use Rattle.laws.proofs.Entering.{entries-end, entries-on, entries-keep, entries-still}
 
 -- a table that is not cut, within both rooms
-record Within {Value : Type 0} (r R : ℕ) (t : Table Value) : Type 0 where
+record InBoth {Value : Type 0} (r R : ℕ) (t : Table Value) : Type 0 where
   uncut : t .cut ≡ false
   first : length (t .entries) ≤ r
   second : length (t .entries) ≤ R
 
 -- the table t with room r beside the table T with room R: level, or t is full and T has more, or T is cut, and nothing is said
 data Beside {Value : Type 0} (r R : ℕ) (t T : Table Value) : Type 0 where
-  level : t ≡ T → Within r R t → Beside r R t T
+  level : t ≡ T → InBoth r R t → Beside r R t T
   past : t .cut ≡ true → t .entries ≡ take r (T .entries) → r < length (T .entries) → Beside r R t T
   second-cut : T .cut ≡ true → Beside r R t T
 
@@ -41,12 +41,12 @@ module _ {Value : Type 0} {r R : ℕ} where
 
 module _ {Value : Type 0} (Val : WordValue Value) (r R : ℕ) where
   -- level tables, and the same entry for both
-  level-enter : {e : Entry Value} {t t′ T′ : Table Value} → Within r R t → Entered Val r e t t′ → Entered Val R e t T′ → Beside r R t′ T′
-  level-enter {e} {t} w (there s p) (there _ q) = level (p ∙ sym q) (subst (Within r R) (sym p) w)
+  level-enter : {e : Entry Value} {t t′ T′ : Table Value} → InBoth r R t → Entered Val r e t t′ → Entered Val R e t T′ → Beside r R t′ T′
+  level-enter {e} {t} w (there s p) (there _ q) = level (p ∙ sym q) (subst (InBoth r R) (sym p) w)
   level-enter {e} {t} w (new s l p) (new _ L q) =
       level (p ∙ sym q)
       (let longer = length-one-more (t .entries) e in
-      subst (Within r R) (sym p) (record { uncut = refl; first = omega arith; second = omega arith }))
+      subst (InBoth r R) (sym p) (record { uncut = refl; first = omega arith; second = omega arith }))
   level-enter {e} {t} w (full s l p) (new _ L q) =
       past (cut-same p)
       (rw (p, q) (sym (take-append-le r (t .entries) (e ∷ []) l ∙ take-all r (t .entries) (w .first))))
@@ -92,7 +92,7 @@ module _ {Value : Type 0} (Val : WordValue Value) (r R : ℕ) where
 
 module _ {Value : Type 0} (Val : WordValue Value) (k r R : ℕ) where
   -- by the entries: once the first table is full, or the second is cut, that one stands still whatever the other does
-  beside-entries : (d D i : ℕ) → ((t : Table Value) → Within r R t → Beside r R (byEntries Val k r d i t) (byEntries Val k R D i t))
+  beside-entries : (d D i : ℕ) → ((t : Table Value) → InBoth r R t → Beside r R (byEntries Val k r d i t) (byEntries Val k R D i t))
       → {t T : Table Value} → Beside r R t T → Beside r R (byEntries Val k r d i t) (byEntries Val k R D i T)
   beside-entries d D i go {t} (level p w) =
       subst (λ (x : Table Value). Beside r R (byEntries Val k r d i t) (byEntries Val k R D i x)) p (go t w)
@@ -104,22 +104,22 @@ module _ {Value : Type 0} (Val : WordValue Value) (k r R : ℕ) where
   beside-entries d D i go {t} {T} (second-cut q) = second-cut (cut-same (entries-still Val k R D i T q) ∙ q)
 
   -- level tables whose entries are run through
-  level-end : (d D i : ℕ) (t : Table Value) → Within r R t → getElem? (t .entries) i ≡ none
+  level-end : (d D i : ℕ) (t : Table Value) → InBoth r R t → getElem? (t .entries) i ≡ none
       → Beside r R (byEntries Val k r d i t) (byEntries Val k R D i t)
-  level-end d D i t w p = level e (subst (Within r R) (sym (entries-end Val k r d i t p)) w)
+  level-end d D i t w p = level e (subst (InBoth r R) (sym (entries-end Val k r d i t p)) w)
     where
       e : byEntries Val k r d i t ≡ byEntries Val k R D i t
       e = entries-end Val k r d i t p ∙ sym (entries-end Val k R D i t p)
 
   -- level tables: the rooms bound the entries, so d and D suffice
-  level-entries : (d D i : ℕ) → d + i ≡ r → D + i ≡ R → (t : Table Value) → Within r R t
+  level-entries : (d D i : ℕ) → d + i ≡ r → D + i ≡ R → (t : Table Value) → InBoth r R t
       → Beside r R (byEntries Val k r d i t) (byEntries Val k R D i t)
   level-entries zero D i p q t w = level-end zero D i t w (past-end (t .entries) i (omega arith))
   level-entries (suc d) zero i p q t w = level-end (suc d) zero i t w (past-end (t .entries) i (omega arith))
   level-entries (suc d) (suc D) i p q t w = go (getElem? (t .entries) i) refl (level-entries d D (suc i) (omega arith) (omega arith))
     where
       go : (o : Option (Entry Value)) → getElem? (t .entries) i ≡ o
-          → ((s : Table Value) → Within r R s → Beside r R (byEntries Val k r d (suc i) s) (byEntries Val k R D (suc i) s))
+          → ((s : Table Value) → InBoth r R s → Beside r R (byEntries Val k r d (suc i) s) (byEntries Val k R D (suc i) s))
           → Beside r R (byEntries Val k r (suc d) i t) (byEntries Val k R (suc D) i t)
       go none h rest = level-end (suc d) (suc D) i t w h
       go (some e) h rest =
