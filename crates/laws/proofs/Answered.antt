@@ -15,7 +15,7 @@ use borrow.Author.Tests.{lt-ltb, le-ltb}
 use Rattle.laws.specs.Words.{Word}
 use Rattle.laws.specs.Model.{Kind, Machine, Model, machine}
 use Rattle.laws.specs.Tables.{Entry, Table, UpTo, noEntry, noEvent}
-use Rattle.laws.specs.Refusals.{firstOf, modelChecks}
+use Rattle.laws.specs.Refusals.{firstOf, modelChecks, Unrefused}
 use Rattle.laws.specs.Profiles.{Profile, Verdict, covered, uncovered, RightVerdict, verdict, values}
 use Rattle.laws.specs.Profiles.{HoldsSets, HoldsProfiles, setTable, profileTable}
 use Rattle.laws.specs.Opposite.{written, blockProfiles, flags, stateCount, arrows, arrowCount, opposite, Opposed}
@@ -26,9 +26,9 @@ use Rattle.laws.proofs.Complete.{set-steps, profile-steps, sets-closing
 use Rattle.laws.proofs.Meaning.{machine-within}
 use Rattle.laws.proofs.Verdicts.{verdict-right}
 use Rattle.laws.proofs.Opposites.{opposed}
-use Rattle.laws.proofs.Unrefused.{Unrefused, unrefused}
+use Rattle.laws.proofs.Unrefused.{unrefused}
 
--- a and b are the rooms for sets and profiles; W and M are the model's, S and T its tables made with these rooms, and C the answer of closing
+-- a and b are the rooms for sets and profiles; W and M are the model's, S and T its tables with these rooms, and C the answer of closing
 module _ (K : Kind) (m : Model) (a b : ℕ) where
   abbrev W : ℕ
   W = K .states

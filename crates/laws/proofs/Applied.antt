@@ -1,5 +1,5 @@
--- Theorems put to use at C and E, where their conditions are met. C's listed tables hold all sets and profiles, C does not accept the course
--- of its row, and of every course exactly one of C and its listed opposite accepts; C's answers say so too. E accepts every course.
+-- Theorems put to use at C and E, where their conditions are met. C's listed tables hold all sets and profiles, C does not accept the
+-- course of its row, and of every course exactly one of C and its listed opposite accepts; C's answers say so too. E accepts every course.
 use Prim.Native.Nat.{ℕ}
 use native.Mathlib.Omega.{arith}
 use mathlib.Core.Path.{_≡_, refl, sym}

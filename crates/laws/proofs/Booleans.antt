@@ -1,4 +1,4 @@
--- Tests taken apart: "or", "and", "some number below n"; and what an option holds.
+-- Tests taken apart: "or", "and", "below n + 1", "some number below n"; and what an option holds.
 use Prim.Native.Nat.{ℕ, zero, suc, _<_}
 use native.Mathlib.Omega.{arith}
 use mathlib.Core.Path.{_≡_, refl, sym, ap, ap₂, _∙_}

@@ -97,7 +97,7 @@ module _ {Value : Type 0} {Val : WordValue Value} (steps : Steps Val) {k room : 
 
 module _ {Value : Type 0} {Val : WordValue Value} {k room : ℕ} where
   -- entry number j went by all events
-  abbrev pub Spent : {t : Table Value} → Making Val k room t → ℕ → Type 0
+  abbrev Spent : {t : Table Value} → Making Val k room t → ℕ → Type 0
   Spent {t} s j =
       (e : Entry Value) (b : ℕ) → getElem? (t .entries) j ≡ some e → b < k → Found s (Val .next (some (e .value)) b) (s .word j ++ (b ∷ []))
 

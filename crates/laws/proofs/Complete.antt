@@ -73,7 +73,7 @@ module _ (W : ℕ) (M : Machine ℕ) where
   profile-small (a ∷ w) t h = small-on w (eventProfile W M a) t (event-small W M a) h
 
   -- so it has a code
-  pub profile-codes : (k : ℕ) → Codes (profileValue W M) k (2 ^ (W * W) * 2 ^ (W * W))
+  profile-codes : (k : ℕ) → Codes (profileValue W M) k (2 ^ (W * W) * 2 ^ (W * W))
   unfolding profileValue
   profile-codes k =
       record {

@@ -4,20 +4,20 @@ use native.Mathlib.Omega.{arith}
 use mathlib.Core.Path.{_≡_, refl, sym, ap, _∙_, subst}
 use mathlib.Core.Bool.{Bool, true, false, _||_, cond, false≢true}
 use mathlib.Core.Logic.{_⊎_, inl, inr}
-use mathlib.Core.Option.{Option, some, Option·some-injective}
+use mathlib.Core.Option.{Option, some}
 use mathlib.Core.List.{List, [], _∷_, List·Memᴰ as Member, List·Memᴰ·head as head, List·Memᴰ·tail as tail}
 use mathlib.Core.List.{List·Memᴰ·not-nil as not-nil, List·Memᴰ·eq-of-singleton as eq-of-singleton}
 use mathlib.Core.List.{List·Memᴰ·append-cases as append-cases, Memᴰ·append-left as append-left, Memᴰ·append-right as append-right}
 use lib.ListN.{length, getElem?}
 use Rattle.laws.specs.Bits.{counted, someOf, keep, gather, placeOf, eachBelow}
-use Rattle.laws.proofs.Booleans.{or-left, or-right, not-nothing}
+use Rattle.laws.proofs.Booleans.{or-left, or-right, not-nothing, inside}
 use Rattle.laws.proofs.Places.{In, place-below, element}
 
 module _ {A : Type 0} where
   -- what stands in a list is a member
   pub member : (xs : List A) {x : A} → In x xs → Member x xs
   member [] (i, e) = absurd (not-nothing e)
-  member (y ∷ xs) (zero, e) = head (sym (Option·some-injective _ _ e))
+  member (y ∷ xs) (zero, e) = head (sym (inside e))
   member (y ∷ xs) (suc i, e) = tail (member xs (i, e))
 
   -- and a member stands in the list
@@ -96,7 +96,7 @@ module _ {A B : Type 0} where
   unfolding gather
   into-gathered f [] j h m = absurd (not-nothing h)
   into-gathered f (y ∷ xs) {e} zero h m =
-      append-left (gather f 1 xs) (subst (λ (z : A). Member e (f 0 z)) (sym (Option·some-injective _ _ h)) m)
+      append-left (gather f 1 xs) (subst (λ (z : A). Member e (f 0 z)) (sym (inside h)) m)
   into-gathered f (y ∷ xs) (suc j) h m = append-right (f 0 y) (rw (shifted f 0 xs) (into-gathered (λ n. f (suc n)) xs j h m))
 
 -- there are d numbers from i on

@@ -6,7 +6,7 @@ use native.Mathlib.Omega.{arith}
 use mathlib.Core.Path.{_≡_, refl, sym, ap, _∙_, subst}
 use mathlib.Core.Bool.{Bool, true, false, _&&_, cond, false≢true}
 use mathlib.Core.Logic.{⊎-elim}
-use mathlib.Core.Option.{Option, none, some, Option·some-injective}
+use mathlib.Core.Option.{Option, none, some}
 use mathlib.Core.List.{List, [], _∷_, _++_, map, List·Memᴰ as Member, List·Memᴰ·head as head, List·Memᴰ·tail as tail}
 use mathlib.Core.List.{List·Memᴰ·cases-cons as cases-cons, List·Memᴰ·eq-of-singleton as eq-of-singleton}
 use mathlib.Core.List.{List·Memᴰ·append-cases as append-cases, Memᴰ·append-left as append-left, Memᴰ·append-right as append-right}
@@ -19,7 +19,7 @@ use Rattle.laws.specs.Model.{Machine}
 use Rattle.laws.specs.Profiles.{Profile, sameProfile, startSet, after, eventProfile, nextProfile}
 use Rattle.laws.specs.Opposite.{Arrow, arrow, isArrow, written, rejectsNonEmpty, gate, inBlock, onto}
 use Rattle.laws.specs.Opposite.{blockProfiles, flags, stateCount, fromSet, fromGate, fromState, fromBlock, arrows}
-use Rattle.laws.proofs.Booleans.{both, and-left, and-right, not-nothing}
+use Rattle.laws.proofs.Booleans.{both, and-left, and-right, not-nothing, inside}
 use Rattle.laws.proofs.Places.{In, place-below}
 use Rattle.laws.proofs.Joins.{same-equal, equal-same}
 use Rattle.laws.proofs.Complete.{Closed}
@@ -44,7 +44,7 @@ profile-placed x xs h = placed (sameProfile x) xs (equal-same x) (same-equal x) 
 first-placed : (P : ℕ) (Ps : List ℕ) → getElem? Ps 0 ≡ some P → placeOf (eqb P) Ps ≡ 0
 unfolding placeOf
 first-placed P [] e = absurd (not-nothing e)
-first-placed P (Q ∷ Ps) e = rw (eq-eqb P Q (sym (Option·some-injective _ _ e)))
+first-placed P (Q ∷ Ps) e = rw (eq-eqb P Q (sym (inside e)))
 
 -- a profile that rejects with a set that is not empty has a block
 pub has-block : (W : ℕ) (Ps : List ℕ) (ts : List Profile) (t : Profile) (P : ℕ) → In t ts → In P Ps → rejectsNonEmpty W P t ≡ true
@@ -85,7 +85,7 @@ at ts (suc i) = getElem? ts i
 
 module _ (Ps : List ℕ) (ts bs : List Profile) where
   -- a number of a block
-  record Inside (p : ℕ) (t : Profile) (y : Option Profile) : Type 0 where
+  record OfBlock (p : ℕ) (t : Profile) (y : Option Profile) : Type 0 where
     b : ℕ
     i : ℕ
     number-is : p ≡ gate Ps ts b + i
@@ -94,10 +94,10 @@ module _ (Ps : List ℕ) (ts bs : List Profile) where
     place-is : at ts i ≡ y
 
   -- what stands for a point of a block is one
-  inside : {p : ℕ} {t : Profile} {y : Option Profile} → Stands Ps ts bs p (at-block t y) → Inside p t y
+  block-place : {p : ℕ} {t : Profile} {y : Option Profile} → Stands Ps ts bs p (at-block t y) → OfBlock p t y
   unfolding inBlock at
-  inside (gate-at b n e) = record { b = b; i = 0; number-is = omega arith; i-below = omega arith; block-is = e; place-is = refl }
-  inside (state-at b i n e f) =
+  block-place (gate-at b n e) = record { b = b; i = 0; number-is = omega arith; i-below = omega arith; block-is = e; place-is = refl }
+  block-place (state-at b i n e f) =
       record { b = b; i = suc i; number-is = omega arith; i-below = place-below ts i f; block-is = e; place-is = f }
 
   -- what stands for a set is its place
@@ -107,7 +107,7 @@ module _ (Ps : List ℕ) (ts bs : List Profile) where
   -- the sets come before the blocks
   apart : {p P : ℕ} {t : Profile} {y : Option Profile} → Stands Ps ts bs p (at-set P) → Stands Ps ts bs p (at-block t y) → ⊥
   unfolding gate
-  apart {p} x z = omega (arith, place-below Ps p (set-place x), inside z .number-is)
+  apart {p} x z = omega (arith, place-below Ps p (set-place x), block-place z .number-is)
 
   -- A NUMBER STANDS FOR ONE POINT
   pub stands-once : {p : ℕ} {s r : Point} → Stands Ps ts bs p s → Stands Ps ts bs p r → s ≡ r
@@ -115,8 +115,8 @@ module _ (Ps : List ℕ) (ts bs : List Profile) where
   stands-once {s = at-set P} {r = at-block t y} x z = absurd (apart x z)
   stands-once {s = at-block t y} {r = at-set P} x z = absurd (apart z x)
   stands-once {s = at-block t y} {r = at-block u z} x w =
-      let c = inside x in
-      let d = inside w in
+      let c = block-place x in
+      let d = block-place w in
       let same = place-once Ps ts (c .b) (d .b) (c .i) (d .i) (c .i-below) (d .i-below) (sym (c .number-is) ∙ d .number-is) in
       let blocks : getElem? bs (c .b) ≡ some u = rw (same .0) (d .block-is) in
       let places : at ts (c .i) ≡ z = rw (same .1) (d .place-is) in
@@ -134,7 +134,7 @@ module _ (Ps : List ℕ) (ts bs : List Profile) where
   unfolding stateCount gate
   stands-below {p} {s = at-set P} x = omega (arith, place-below Ps p (set-place x))
   stands-below {s = at-block t y} x =
-      let c = inside x in
+      let c = block-place x in
       omega (arith, c .number-is, c .i-below, gate-grows Ps ts (c .b) (length bs) (place-below bs (c .b) (c .block-is)))
 
 -- lists of one length, one behind the other: the elements of the list number b
@@ -151,7 +151,7 @@ repeated l d i n [] b e h = absurd (not-nothing e)
 mapped : {A B : Type 0} (f : A → B) (d : B) (xs : List A) (ys : List B) (i : ℕ) {x : A} → getElem? xs i ≡ some x
     → getD (map f xs ++ ys) i d ≡ f x
 mapped f d [] ys i e = absurd (not-nothing e)
-mapped f d (y ∷ xs) ys zero e = ap f (Option·some-injective _ _ e)
+mapped f d (y ∷ xs) ys zero e = ap f (inside e)
 mapped f d (y ∷ xs) ys (suc i) e = mapped f d xs ys i e
 
 -- the test whether a point accepts

@@ -10,7 +10,7 @@ use lib.Pow.{field, mod-mod-pow, shr-shr}
 use lib.Dec.{eqb, ltb}
 use borrow.Author.Tests.{ltb-true, ltb-false, eqb-true, eqb-false, eq-eqb, ne-eqb}
 use Rattle.laws.specs.Bits.{bit, fromBits, cell, grid, packedRow}
-use Rattle.laws.proofs.Booleans.{never, either}
+use Rattle.laws.proofs.Booleans.{same-test, never, either}
 
 -- bit 0 is the remainder by two
 bit-zero : (x : ℕ) → bit x 0 ≡ eqb (x % 2) 1
@@ -158,3 +158,22 @@ low-bits N x i h =
 pub row-bit : (W x p q : ℕ) → q < W → bit (packedRow W x p) q ≡ cell W x p q
 unfolding packedRow cell bit
 row-bit W x p q h = low-bits W (x / 2 ^ (W * p)) q h ∙ rw shr-shr
+
+-- a number whose bits lie below N is below 2^N
+pub inside-bits : (N x : ℕ) → ((i : ℕ) → bit x i ≡ true → i < N) → x < 2 ^ N
+inside-bits N x h =
+    let small = mod-lt x (positive N) in
+    let same = same-numbers x (x % 2 ^ N)
+    (λ i. same-test (λ b. low-bits N x i (h i b) ∙ b) (λ b. sym (low-bits N x i (bit-inside N (x % 2 ^ N) i small b)) ∙ b)) in
+    omega arith
+
+module _ (W x : ℕ) where
+  -- a row has W bits
+  pub row-small : (p : ℕ) → packedRow W x p < 2 ^ W
+  unfolding packedRow
+  row-small p = mod-lt (x / 2 ^ (W * p)) (positive W)
+
+  -- a bit of a packed number is that of a row and a column
+  pub bit-cell : (i : ℕ) → zero < W → bit x i ≡ true → (i % W < W) × (cell W x (i / W) (i % W) ≡ true)
+  unfolding cell
+  bit-cell i w b = (mod-lt i w, ap (bit x) (div-add-mod i W) ∙ b)

@@ -1,5 +1,5 @@
 -- The listed arrows are sorted by from, then event, then to, and none is listed twice: for any sets, profiles and blocks.
-use Prim.Native.Nat.{ℕ, suc, _+_, _≤_, _<_}
+use Prim.Native.Nat.{ℕ, zero, suc, _+_, _≤_, _<_}
 use native.Mathlib.Omega.{arith}
 use mathlib.Core.Path.{_≡_, refl, sym, ap, _∙_}
 use mathlib.Core.Bool.{Bool, true, false, cond}
@@ -7,17 +7,18 @@ use mathlib.Core.Logic.{⊎-elim}
 use mathlib.Core.List.{List, [], _∷_, _++_, List·Memᴰ as Member, List·Memᴰ·head as head, List·Memᴰ·tail as tail}
 use mathlib.Core.List.{List·Memᴰ·cases-cons as cases-cons, List·Memᴰ·eq-of-singleton as eq-of-singleton}
 use mathlib.Core.List.{List·Memᴰ·append-cases as append-cases}
-use lib.ListN.{length}
+use mathlib.Core.Option.{some}
+use lib.ListN.{length, getElem?}
 use lib.Dec.{eqb, ltb}
-use borrow.Author.Tests.{eq-eqb, lt-ltb}
+use borrow.Author.Tests.{eq-eqb, lt-ltb, le-ltb}
 use Rattle.laws.specs.Bits.{counted, everyOf, gather, placeOf, eachBelow}
 use Rattle.laws.specs.Model.{Machine}
 use Rattle.laws.specs.Profiles.{Profile, sameProfile, join, after, eventProfile}
 use Rattle.laws.specs.Opposite.{Arrow, arrow, earlier, sorted, rejectsNonEmpty, gate, inBlock, onto}
 use Rattle.laws.specs.Opposite.{fromSet, fromGate, fromState, fromBlock, arrows}
-use Rattle.laws.proofs.Booleans.{both, and-left, and-right, or-left, or-right}
-use Rattle.laws.proofs.Places.{place-below}
-use Rattle.laws.proofs.Members.{only, shifted, gathered, by-place, each, gathered-each}
+use Rattle.laws.proofs.Booleans.{both, and-left, and-right, or-left, or-right, never, not-nothing}
+use Rattle.laws.proofs.Places.{In, place-below}
+use Rattle.laws.proofs.Members.{member, only, shifted, gathered, by-place, each, gathered-each}
 use Rattle.laws.proofs.Numbered.{gate-grows}
 
 -- each arrow of the one list is earlier than each of the other
@@ -215,3 +216,24 @@ module _ (W : ℕ) (M : Machine ℕ) (k : ℕ) (Ps : List ℕ) (ts : List Profil
       let p = from-states k (λ i. i) (fromSet W M Ps ts bs) (from-set W M Ps ts bs) Ps e m in
       let g = gathered (fromBlock W M Ps ts k) bs n in
       by-from e f (omega (arith, from-block (g .0) (g .1) f (g .3))))
+
+-- no arrow is earlier than itself
+not-itself : (e : Arrow) → earlier e e ≡ false
+unfolding earlier
+not-itself e =
+    let none : (n : ℕ) → ltb n n ≡ false = λ n. le-ltb n n (omega arith) in
+    rw (none (e .from), none (e .event), none (e .to), eq-eqb (e .from) (e .from) refl, eq-eqb (e .event) (e .event) refl)
+
+-- the first arrow of a sorted list is earlier than what stands behind it
+behind : (d : Arrow) (es : List Arrow) {e : Arrow} → sorted (d ∷ es) ≡ true → In e es → earlier d e ≡ true
+unfolding sorted
+behind d es h at = member-every (earlier d) (and-left (everyOf (earlier d) es) (sorted es) h) (member es at)
+
+-- SO A SORTED LIST has no arrow twice
+pub sorted-once : (es : List Arrow) → sorted es ≡ true → (i j : ℕ) (e : Arrow) → getElem? es i ≡ some e → getElem? es j ≡ some e → i ≡ j
+unfolding sorted
+sorted-once [] h i j e p q = absurd (not-nothing p)
+sorted-once (d ∷ es) h zero zero e p q = refl
+sorted-once (d ∷ es) h zero (suc j) e p q = never (sym (not-itself d) ∙ behind d es h (j, q ∙ sym p))
+sorted-once (d ∷ es) h (suc i) zero e p q = never (sym (not-itself d) ∙ behind d es h (i, p ∙ sym q))
+sorted-once (d ∷ es) h (suc i) (suc j) e p q = ap suc (sorted-once es (and-right (everyOf (earlier d) es) (sorted es) h) i j e p q)

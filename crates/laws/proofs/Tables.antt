@@ -55,7 +55,7 @@ module _ {Value : Type 0} {Val : WordValue Value} {k : ℕ} where
     whole {bound = bound} c = ⊎-elim (λ e. absurd (not-more c (made-cut steps k bound e))) (λ e. e) (either (made Val k bound .cut))
 
     -- so it holds all values
-    pub enough : {bound : ℕ} → Codes Val k bound → Holds Val k (made Val k bound .entries)
+    enough : {bound : ℕ} → Codes Val k bound → Holds Val k (made Val k bound .entries)
     enough {bound = bound} c = made-holds steps k bound (whole c)
 
     module _ (complete : List (Entry Value)) (h : Holds Val k complete) where

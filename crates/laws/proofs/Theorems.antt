@@ -31,7 +31,7 @@ use Rattle.laws.proofs.Values.{entry-at}
 use Rattle.laws.proofs.Complete.{set-codes, sets-closing, profiles-closing, closed}
 use Rattle.laws.proofs.Verdicts.{covered-none, verdict-first, first-verdict, pair-once, verdict-right}
 use Rattle.laws.proofs.Opposites.{opposed}
-use Rattle.laws.proofs.Sorted.{arrows-sorted}
+use Rattle.laws.proofs.Sorted.{arrows-sorted, sorted-once}
 use Rattle.laws.proofs.Counts.{arrows-counted, states-counted, arrows-inside}
 use Rattle.laws.proofs.Answered.{one-judged}
 
@@ -157,9 +157,13 @@ module _ (W : ℕ) (M : Machine ℕ) (k : ℕ) (sets : List (Entry ℕ)) (profil
       arrows-inside W M k (values sets) (values profiles) bs (closed W M k sets profiles hs hp) e (member es (i, at))
 
 module _ (W : ℕ) (M : Machine ℕ) (k : ℕ) (Ps : List ℕ) (ts : List Profile) where
-  -- they are sorted by from, event, to, none twice
+  -- they are sorted by from, event, to, and none stands there twice
   pub opposite-is-sorted : sorted (arrows W M k Ps ts (blockProfiles W Ps ts)) ≡ true
   opposite-is-sorted = arrows-sorted W M k Ps ts (blockProfiles W Ps ts)
+
+  pub opposite-has-none-twice : let es = arrows W M k Ps ts (blockProfiles W Ps ts) in
+      (i j : ℕ) (e : Arrow) → getElem? es i ≡ some e → getElem? es j ≡ some e → i ≡ j
+  opposite-has-none-twice = sorted-once (arrows W M k Ps ts (blockProfiles W Ps ts)) opposite-is-sorted
 
   -- they are as many as document 01 counts, and so are the states
   pub opposite-arrows : length (arrows W M k Ps ts (blockProfiles W Ps ts)) ≡ arrowCount W M k Ps ts (blockProfiles W Ps ts)

@@ -1,11 +1,12 @@
 -- Document 01, "Numbers given back": how the first refusal is found, and what is refused of a model (1, 2, 3) and of one course (10, 9).
 -- 4 to 7 and what the answers hold stand in Answers, the file's faults in File.
-use Prim.Native.Nat.{ℕ, _*_, _^_}
+use Prim.Native.Nat.{ℕ, _*_, _^_, _<_, _≤_}
+use mathlib.Core.Path.{_≡_}
 use mathlib.Core.Bool.{Bool, true, false, not, _&&_, _||_}
 use mathlib.Core.List.{List, [], _∷_, _++_}
-use lib.ListN.{length, take}
+use lib.ListN.{length, take, getD}
 use lib.Dec.{ltb, leb}
-use Rattle.laws.specs.Bits.{packedRow, someBelow, someOf}
+use Rattle.laws.specs.Bits.{bit, cell, packedRow, someBelow, someOf}
 use Rattle.laws.specs.Words.{Word, lettersBelow, empty}
 use Rattle.laws.specs.Model.{Kind, Model}
 
@@ -54,6 +55,18 @@ modelChecks K m =
     ∷ refuse 2 (ltb (length (m .arrows)) (m .k))
     ∷ refuse 3 (maskBeyond (m .n) (m .start) || maskBeyond (m .n) (m .home) || someOf (arrowsBeyond (K .states) (m .n)) (take (m .k) (m .arrows)))
     ∷ []
+
+-- WHAT IS ASKED OF A MODEL, so that none of these is given: n and k in their ranges, k numbers of arrows, and no bit that names a state n
+-- or above, neither as p nor as q
+pub record Unrefused (K : Kind) (m : Model) : Type 0 where
+  pub n-least : 1 ≤ m .n
+  pub n-most : m .n ≤ K .states
+  pub k-least : 1 ≤ m .k
+  pub k-most : m .k ≤ K .events
+  pub arrows-there : m .k ≤ length (m .arrows)
+  pub start-inside : (p : ℕ) → bit (m .start) p ≡ true → p < m .n
+  pub home-inside : (p : ℕ) → bit (m .home) p ≡ true → p < m .n
+  pub arrows-inside : (a p q : ℕ) → a < m .k → q < K .states → cell (K .states) (getD (m .arrows) a 0) p q ≡ true → (p < m .n) × (q < m .n)
 
 -- OF ONE COURSE of a model: 10 v is empty; 9 a letter of u or v is k or above
 unfoldable pub courseChecks : Kind → Model → Word → Word → List Check
