@@ -11,7 +11,7 @@ use mathlib.Core.Option.{none, some}
 use lib.ListN.{length, take, length-take}
 use lib.Seq.{take-all}
 use lib.Dec.{ltb}
-use borrow.Author.Tests.{lt-ltb, le-ltb}
+use borrow.Author.Tests.{lt-ltb, le-ltb, ltb-true, ltb-false}
 use Rattle.laws.specs.Words.{Word}
 use Rattle.laws.specs.Model.{Kind, Machine, Model, machine}
 use Rattle.laws.specs.Tables.{Entry, Table, UpTo, noEntry, noEvent}
@@ -19,7 +19,7 @@ use Rattle.laws.specs.Refusals.{firstOf, modelChecks, Unrefused}
 use Rattle.laws.specs.Profiles.{Profile, Verdict, covered, uncovered, RightVerdict, verdict, values}
 use Rattle.laws.specs.Profiles.{HoldsSets, HoldsProfiles, setTable, profileTable}
 use Rattle.laws.specs.Opposite.{written, blockProfiles, flags, stateCount, arrows, arrowCount, opposite, Opposed}
-use Rattle.laws.specs.Answers.{ClosingAnswer, closingAnswer, uAndV, words, verdictAnswer, oppositeAnswer, CourseAnswer}
+use Rattle.laws.specs.Answers.{ClosingAnswer, closingAnswer, closingOf, uAndV, words, verdictAnswer, oppositeAnswer, CourseAnswer}
 use Rattle.laws.proofs.Booleans.{or-left, or-right, same-test}
 use Rattle.laws.proofs.Tables.{up-to}
 use Rattle.laws.proofs.Complete.{set-steps, profile-steps, sets-closing, profiles-closing}
@@ -85,6 +85,21 @@ module _ (K : Kind) (m : Model) (a b : ℕ) where
       closing-0 l =
           let uncut = profiles-made .cut ∙ le-ltb b (length profiles) l in
           rw (passes, sets-uncut, uncut, sets-all, profiles-made .first ∙ take-all b profiles l, closingAnswer)
+
+  -- together: closing answers what document 01 lists, whichever lists hold all sets and all profiles
+  pub closing-listed : (sets : List (Entry ℕ)) → HoldsSets W M (m .k) sets → (profiles : List (Entry Profile))
+      → HoldsProfiles W M (m .k) profiles → C ≡ closingOf K m a b sets profiles
+  unfolding closingOf
+  closing-listed sets hs profiles hp = go (firstOf (modelChecks K m) .number) (ltb a (length sets)) (ltb b (length profiles)) refl refl refl
+    where
+      go : (n : ℕ) (s t : Bool) → firstOf (modelChecks K m) .number ≡ n → ltb a (length sets) ≡ s → ltb b (length profiles) ≡ t
+          → C ≡ closingOf K m a b sets profiles
+      go (suc n) s t f p q = rw (f, closingOf) (closing-refused n f)
+      go zero true t f p q = rw (f, p, closingOf) (closing-4 f sets hs (ltb-true a (length sets) p))
+      go zero false true f p q =
+          rw (f, p, q, closingOf) (closing-5 f sets hs (ltb-false a (length sets) p) profiles hp (ltb-true b (length profiles) q))
+      go zero false false f p q =
+          rw (f, p, q, closingOf) (closing-0 f sets hs (ltb-false a (length sets) p) profiles hp (ltb-false b (length profiles) q))
 
   -- the tables of an answer hold all sets and profiles of a model that is not refused with 1, 2 or 3, within their rooms
   pub record Whole (c : ClosingAnswer) : Type 0 where

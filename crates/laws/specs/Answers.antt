@@ -5,7 +5,7 @@ use mathlib.Core.Path.{_≡_}
 use mathlib.Core.Bool.{Bool, true, false, _||_}
 use mathlib.Core.List.{List, [], _++_, map}
 use mathlib.Core.Option.{Option, none, some}
-use lib.ListN.{length, drop}
+use lib.ListN.{length, take, drop}
 use lib.Dec.{ltb}
 use Rattle.laws.specs.Words.{Word}
 use Rattle.laws.specs.Model.{Machine, Kind, Model, machine, Accepted}
@@ -103,6 +103,23 @@ closingAnswer K m set-room profile-room =
                 elim (T .cut) [
                   | true ↦ record { number = 5; sets = S .entries; profiles = T .entries }
                   | false ↦ record { number = 0; sets = S .entries; profiles = T .entries }
+                ]
+          ]
+    ]
+
+-- THE SAME AS DOCUMENT 01 LISTS IT, when sets and profiles are all there are: 4 exactly if there are more sets than room, then 5 exactly if
+-- there are more profiles than room
+unfoldable pub closingOf : Kind → Model → ℕ → ℕ → List (Entry ℕ) → List (Entry Profile) → ClosingAnswer
+closingOf K m set-room profile-room sets profiles =
+    elim (firstOf (modelChecks K m) .number) [
+      | suc r ↦ record { number = suc r; sets = []; profiles = [] }
+      | zero ↦
+          elim (ltb set-room (length sets)) [
+            | true ↦ record { number = 4; sets = take set-room sets; profiles = [] }
+            | false ↦
+                elim (ltb profile-room (length profiles)) [
+                  | true ↦ record { number = 5; sets = sets; profiles = take profile-room profiles }
+                  | false ↦ record { number = 0; sets = sets; profiles = profiles }
                 ]
           ]
     ]
