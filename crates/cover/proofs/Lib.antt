@@ -1,0 +1,14 @@
+-- loops: a search, and flags that are filled
+pub mod Searching
+pub mod Flags
+-- what is refused of a model
+pub mod Beyond
+-- lent slices, a table filled into them, and the two tables
+pub mod Slices
+pub mod Filling
+pub mod SetTable
+pub mod ProfileTable
+-- words rebuilt through predecessors
+pub mod Rebuilding
+-- the answer of closing
+pub mod Answering

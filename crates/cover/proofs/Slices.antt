@@ -1,0 +1,130 @@
+-- What stands in a slice after numbers were written to its beginning, and the entries that are read back.
+use Prim.Native.Nat.{ℕ, zero, suc, _+_, _-_, _≤_, _<_}
+use native.Mathlib.Nat.{add-zero, zero-add}
+use native.Mathlib.Omega.{arith}
+use mathlib.Core.Path.{_≡_, refl, sym, ap, _∙_}
+use mathlib.Core.Option.{some}
+use mathlib.Core.List.{List, [], _∷_, _++_, map}
+use lib.ListN.{length, getD, take, drop, set, getElem?, length-append, length-drop, length-map, take-append-drop, List·getD-append}
+use lib.Seq.{drop-cons, drop-drop, drop-append-add, set-append-seam, append-snoc, getD-append-add, getD-drop, getD-take}
+use lib.Seq.{length-take-le, ext-getD}
+use Rattle.laws.specs.Bits.{counted}
+use Rattle.laws.specs.Tables.{Entry}
+use Rattle.laws.specs.Answers.{over}
+use Rattle.laws.proofs.Booleans.{inside, not-nothing}
+use Rattle.laws.proofs.Places.{same-lists, element, place-below, length-one-more}
+use Rattle.laws.proofs.Members.{length-counted}
+use Rattle.cover.specs.Memory.{entriesIn}
+
+-- writing again, and no less, is writing at once
+pub over-again : (xs ys old : List ℕ) → length xs ≤ length ys → over ys (over xs old) ≡ over ys old
+unfolding over
+over-again xs ys old h =
+    let d : ℕ = length ys - length xs in
+    let e : length ys ≡ length xs + d = omega arith in
+    ap (λ (r : List ℕ). ys ++ r) (rw (e, drop-append-add, drop-drop))
+
+-- the slice keeps its length
+pub over-length : (xs old : List ℕ) → length xs ≤ length old → length (over xs old) ≡ length old
+unfolding over
+over-length xs old h = simp (length-append, length-drop) (omega arith)
+
+-- what was written stands there
+pub over-at : (xs old : List ℕ) (i : ℕ) → i < length xs → getD (over xs old) i 0 ≡ getD xs i 0
+unfolding over
+over-at xs old i h = List·getD-append xs (drop (length xs) old) 0 i h
+
+-- and past it what stood there before
+pub over-past : (xs old : List ℕ) (i : ℕ) → length xs ≤ i → getD (over xs old) i 0 ≡ getD old i 0
+unfolding over
+over-past xs old i h =
+    let e : i ≡ length xs + (i - length xs) = omega arith in
+    rw (e, getD-append-add, getD-drop)
+
+-- writing what stands there changes nothing
+pub over-same : (xs old : List ℕ) → length xs ≤ length old → ((i : ℕ) → i < length xs → getD xs i 0 ≡ getD old i 0) → over xs old ≡ old
+unfolding over
+over-same xs old h same =
+    let n : ℕ = length xs in
+    let e = ext-getD 0 xs (take n old) (sym (length-take-le n old h)) (λ i l. same i l ∙ sym (getD-take n old i 0 l)) in
+    ap (λ (r : List ℕ). r ++ drop n old) e ∙ take-append-drop n old
+
+-- one number more, at the place behind those written
+pub over-set : (xs old : List ℕ) (x : ℕ) → length xs < length old → set (over xs old) (length xs) x ≡ over (xs ++ (x ∷ [])) old
+unfolding over
+over-set xs old x h = rw (length-one-more, drop-cons old (length xs) 0, set-append-seam, append-snoc)
+
+-- the numbers from i on, by their places
+counted-at : (i d j : ℕ) → j < d → getElem? (counted i d) j ≡ some (i + j)
+unfolding counted
+counted-at i zero j h = absurd (omega arith)
+counted-at i (suc d) zero h = rw add-zero
+counted-at i (suc d) (suc j) h = counted-at (suc i) d j (omega arith) ∙ ap some (omega arith)
+
+module _ {A B : Type 0} (f : A → B) where
+  -- what f makes of a list stands where it was made from
+  pub map-at : (xs : List A) (i : ℕ) {x : A} → getElem? xs i ≡ some x → getElem? (map f xs) i ≡ some (f x)
+  map-at [] i h = absurd (not-nothing h)
+  map-at (y ∷ xs) zero h = ap (λ y. some (f y)) (inside h)
+  map-at (y ∷ xs) (suc i) h = map-at xs i h
+
+  -- one element more
+  pub map-one-more : (xs : List A) (x : A) → map f (xs ++ (x ∷ [])) ≡ map f xs ++ (f x ∷ [])
+  map-one-more [] x = refl
+  map-one-more (y ∷ xs) x = ap (λ (r : List B). f y ∷ r) (map-one-more xs x)
+
+-- what stands at a place is read there
+pub getD-some : {A : Type 0} (xs : List A) (i : ℕ) (d : A) {x : A} → getElem? xs i ≡ some x → getD xs i d ≡ x
+getD-some [] i d h = absurd (not-nothing h)
+getD-some (y ∷ xs) zero d h = inside h
+getD-some (y ∷ xs) (suc i) d h = getD-some xs i d h
+
+-- A COLUMN of a table: f of each element, written to the beginning of a slice
+module _ {A : Type 0} (f : A → ℕ) where
+  pub column-again : (ds es : List A) (old : List ℕ) → length ds ≤ length es → over (map f es) (over (map f ds) old) ≡ over (map f es) old
+  column-again ds es old h = over-again (map f ds) (map f es) old (simp length-map h)
+
+  -- it is read back
+  pub column-at : (es : List A) (old : List ℕ) (i : ℕ) {e : A} → getElem? es i ≡ some e → getD (over (map f es) old) i 0 ≡ f e
+  column-at es old i h =
+      over-at (map f es) old i (simp length-map (place-below es i h)) ∙ getD-some (map f es) i 0 (map-at f es i h)
+
+  -- the slice is as long as before
+  pub column-length : (es : List A) (old : List ℕ) → length es ≤ length old → length (over (map f es) old) ≡ length old
+  column-length es old h = over-length (map f es) old (simp length-map h)
+
+  -- a column that stands there already
+  pub column-same : (es : List A) (old : List ℕ) → length es ≤ length old → ((i : ℕ) (e : A) → getElem? es i ≡ some e → f e ≡ getD old i 0)
+      → over (map f es) old ≡ old
+  column-same es old h same =
+      over-same (map f es) old (simp length-map h)
+      (λ i l.
+      let (e, at) = element es i (simp length-map at l) in
+      getD-some (map f es) i 0 (map-at f es i at) ∙ same i e at)
+
+  -- then one element more is written behind it
+  pub column-set : (es : List A) (old : List ℕ) (e : A) → over (map f es) old ≡ old → length es < length old
+      → set old (length es) (f e) ≡ over (map f (es ++ (e ∷ []))) old
+  column-set es old e h l = rw map-one-more (simp (h, length-map) at (over-set (map f es) old (f e) (simp length-map l)))
+
+module _ {Value : Type 0} (value : ℕ → Value) (from event : List ℕ) where
+  -- entry number i
+  abbrev pub entryIn : ℕ → Entry Value
+  entryIn i = record { value = value i; from = getD from i 0; event = getD event i 0 }
+
+  -- as many entries are read as are asked for
+  pub entries-length : (n : ℕ) → length (entriesIn value from event n) ≡ n
+  unfolding entriesIn
+  entries-length n = simp (length-map, length-counted)
+
+  -- each at its place
+  pub entries-at : (n i : ℕ) → i < n → getElem? (entriesIn value from event n) i ≡ some (entryIn i)
+  unfolding entriesIn
+  entries-at n i h = map-at entryIn (counted 0 n) i (counted-at 0 n i h ∙ ap some (zero-add i))
+
+  -- they are es where the slices have what es has at each place
+  pub entries-are : (es : List (Entry Value)) (n : ℕ) → length es ≡ n → ((i : ℕ) (e : Entry Value) → getElem? es i ≡ some e → entryIn i ≡ e)
+      → entriesIn value from event n ≡ es
+  entries-are es n h same =
+      same-lists (entriesIn value from event n) es (entries-length n ∙ sym h)
+      (λ i x y p q. inside (sym p ∙ entries-at n i (omega (arith, place-below es i q))) ∙ same i y q)

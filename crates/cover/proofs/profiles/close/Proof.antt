@@ -1,0 +1,172 @@
+-- The table begins with what the events make of the empty word, and then each entry goes by all events. The loop keeps that the slices are
+-- lent, and that whatever table was to be made from where it began is still to be made from where it stands.
+use Prim.Native.Nat.{_-_}
+use mathlib.Core.Path.{refl}
+use borrow.Author.Needs.{needs}
+use Rattle.laws.specs.Model.{machine}
+use Rattle.laws.specs.Tables.{WordValue, Table}
+use Rattle.laws.specs.Profiles.{Profile, profileValue}
+use Rattle.laws.specs.Answers.{ProfileSlices, profileSlices}
+use Rattle.cover.specs.Values.{asked}
+use Rattle.cover.specs.Memory.{profiles, ProfilesLent}
+use Rattle.cover.proofs.Filling.{ByEntries, begin-cut, entries-begin, entries-cut, entries-next, entries-done, still-lent, goes}
+use Rattle.cover.proofs.ProfileTable.{read-at, profileLayout, SameLengths, room-lent, table-fills}
+use Rattle.cover.proofs.profiles.close.Statement.{statement}
+use Rattle.cover.proofs.profiles.close.Tie as tie
+
+abbrev Inv-loop : tie.InvT-loop
+Inv-loop m lent arrows₀ marks₀ from₀ event₀ room n₀ i₀ arrows marks from event n i =
+    let Val : WordValue Profile = profileValue 8 (machine 8 (asked m lent)) in
+    let begun : ProfileSlices = profiles arrows₀ marks₀ from₀ event₀ in
+    let now : ProfileSlices = profiles arrows marks from event in
+    SameLengths begun now
+    × ProfilesLent now n room
+    × ((old : ProfileSlices) (whole : Table Profile) → ByEntries Val profileSlices (m .k) room whole old begun n₀ 0
+    → ByEntries Val profileSlices (m .k) room whole old now n i)
+
+abbrev μ-loop : tie.MeasureT-loop
+μ-loop m lent arrows₀ marks₀ from₀ event₀ room n₀ i₀ arrows marks from event n i = room - i
+
+room-of-requires : tie.Need-room-of-requires Inv-loop μ-loop
+room-of-requires c κs = search needs
+
+by-events-requires : tie.Need-by-events-requires Inv-loop μ-loop
+by-events-requires c κs = (search needs, room-lent _ (c .before .before .before .before .room-of .ensures))
+
+same-length : tie.Need-same-length Inv-loop μ-loop
+same-length c = search needs
+
+same-length-2 : tie.Need-same-length-2 Inv-loop μ-loop
+same-length-2 c = search needs
+
+same-length-3 : tie.Need-same-length-3 Inv-loop μ-loop
+same-length-3 c = search needs
+
+same-length-4 : tie.Need-same-length-4 Inv-loop μ-loop
+same-length-4 c = search needs
+
+returns : tie.Need-returns Inv-loop μ-loop
+returns c =
+    let first = c .before .before .before .before .before .before .before .before .before in
+    table-fills _ _ _ (first .before .before .before .before .before .room-of .ensures)
+    (begin-cut profileLayout _ _ (first .by-events .ensures) (c .if1 .taken))
+
+loop-holds : tie.Need-loop-holds Inv-loop μ-loop
+loop-holds c =
+    let first = c .before .before .before .before .before .before .before .before .before in
+    let room = first .before .before .before .before .before in (
+      search needs,
+      still-lent profileLayout (goes (first .by-events .ensures)) (room-lent _ (room .room-of .ensures)),
+      λ old whole s. s,
+    )
+
+mul-t32 : tie.Need-mul-t32 Inv-loop μ-loop
+mul-t32 c = search needs
+
+slice-read-t34 : tie.Need-slice-read-t34 Inv-loop μ-loop
+slice-read-t34 c = search needs
+
+mul-t35 : tie.Need-mul-t35 Inv-loop μ-loop
+mul-t35 c = search needs
+
+slice-read-t37 : tie.Need-slice-read-t37 Inv-loop μ-loop
+slice-read-t37 c = search needs
+
+cast-by-events : tie.Need-cast-by-events Inv-loop μ-loop
+cast-by-events c = search needs
+
+by-events-requires-2 : tie.Need-by-events-requires-2 Inv-loop μ-loop
+by-events-requires-2 c κs = search needs
+
+same-length-5 : tie.Need-same-length-5 Inv-loop μ-loop
+same-length-5 c = search needs
+
+same-length-6 : tie.Need-same-length-6 Inv-loop μ-loop
+same-length-6 c = search needs
+
+same-length-7 : tie.Need-same-length-7 Inv-loop μ-loop
+same-length-7 c = search needs
+
+same-length-8 : tie.Need-same-length-8 Inv-loop μ-loop
+same-length-8 c = search needs
+
+returns-2 : tie.Need-returns-2 Inv-loop μ-loop
+returns-2 c =
+    let again = c .before .before .before .before .before .before .before .before .before in
+    let turn = again .before .before .before .before .before .before .before in
+    let first = turn .before .before .before .before .before .before .before .before .before .before .before in
+    table-fills _ _ _ (first .before .before .before .before .before .room-of .ensures)
+    (entries-cut profileLayout _
+    (turn .before .loop .inv .2 _ _ (entries-begin profileLayout _ _ (first .by-events .ensures) (turn .before .before .if1 .left)))
+    (turn .loop-test .taken) _ (read-at _ _ _ (turn .loop-test .taken)) refl (again .by-events2 .ensures) (c .if2 .taken))
+
+add-i : tie.Need-add-i Inv-loop μ-loop
+add-i c = search needs
+
+loop-less : tie.Need-loop-less Inv-loop μ-loop
+loop-less c = search needs
+
+loop-again : tie.Need-loop-again Inv-loop μ-loop
+loop-again c =
+    let again = c .before .before .before .before .before .before .before .before .before in
+    let turn = again .before .before .before .before .before .before .before in (
+      search needs,
+      search needs,
+      λ old whole s.
+          entries-next profileLayout _ (turn .before .loop .inv .2 old whole s) (turn .loop-test .taken) _
+          (read-at _ _ _ (turn .loop-test .taken)) refl (again .by-events2 .ensures) (c .if2 .left),
+    )
+
+same-length-9 : tie.Need-same-length-9 Inv-loop μ-loop
+same-length-9 c = search needs
+
+same-length-10 : tie.Need-same-length-10 Inv-loop μ-loop
+same-length-10 c = search needs
+
+same-length-11 : tie.Need-same-length-11 Inv-loop μ-loop
+same-length-11 c = search needs
+
+same-length-12 : tie.Need-same-length-12 Inv-loop μ-loop
+same-length-12 c = search needs
+
+returns-3 : tie.Need-returns-3 Inv-loop μ-loop
+returns-3 c =
+    let first = c .before .before .before .before .before .before .before .before .before .before .before in
+    table-fills _ _ _ (first .before .before .before .before .before .room-of .ensures)
+    (entries-done profileLayout _
+    (c .before .loop .inv .2 _ _ (entries-begin profileLayout _ _ (first .by-events .ensures) (c .before .before .if1 .left)))
+    (c .loop-test .left))
+
+pub close-spec : {M : Type 1} → statement M
+close-spec =
+    tie.close
+    (tie.spec
+    Inv-loop
+    μ-loop
+    room-of-requires
+    by-events-requires
+    same-length
+    same-length-2
+    same-length-3
+    same-length-4
+    returns
+    loop-holds
+    mul-t32
+    slice-read-t34
+    mul-t35
+    slice-read-t37
+    cast-by-events
+    by-events-requires-2
+    same-length-5
+    same-length-6
+    same-length-7
+    same-length-8
+    returns-2
+    add-i
+    loop-less
+    loop-again
+    same-length-9
+    same-length-10
+    same-length-11
+    same-length-12
+    returns-3)

@@ -1,0 +1,155 @@
+-- The first set is entered, and then what the events make of each entry in turn. The loop keeps that whatever table was to be made from
+-- where it began is still to be made from where it stands.
+use Prim.Native.Nat.{ℕ, _-_}
+use mathlib.Core.Path.{refl}
+use borrow.Author.Needs.{needs}
+use Rattle.laws.specs.Model.{Machine, machine}
+use Rattle.laws.specs.Tables.{WordValue, Table}
+use Rattle.laws.specs.Profiles.{setValue}
+use Rattle.laws.specs.Answers.{SetSlices, setSlices}
+use Rattle.cover.specs.Values.{asked}
+use Rattle.cover.specs.Memory.{sets, SetsLent}
+use Rattle.cover.proofs.Filling.{ByEntries, goes, still-lent, begin-cut, entries-begin, entries-cut, entries-next, entries-done}
+use Rattle.cover.proofs.SetTable.{read-at, setLayout, SameLengths, room-lent, table-fills}
+use Rattle.cover.proofs.sets.close.Statement.{statement}
+use Rattle.cover.proofs.sets.close.Tie as tie
+
+abbrev Inv-loop : tie.InvT-loop
+Inv-loop m arrows masks₀ from₀ event₀ room n₀ i₀ masks from event n i =
+    let Val : WordValue ℕ = setValue 8 (machine 8 (asked m arrows)) in
+    let begun : SetSlices = sets masks₀ from₀ event₀ in
+    let now : SetSlices = sets masks from event in
+    SameLengths begun now
+    × SetsLent now n room
+    × ((old : SetSlices) (whole : Table ℕ) → ByEntries Val setSlices (m .k) room whole old begun n₀ 0
+    → ByEntries Val setSlices (m .k) room whole old now n i)
+
+abbrev μ-loop : tie.MeasureT-loop
+μ-loop m arrows masks₀ from₀ event₀ room n₀ i₀ masks from event n i = room - i
+
+room-of-requires : tie.Need-room-of-requires Inv-loop μ-loop
+room-of-requires c κs = search needs
+
+enter-requires : tie.Need-enter-requires Inv-loop μ-loop
+enter-requires c κs = room-lent _ (c .before .before .before .room-of .ensures)
+
+same-length : tie.Need-same-length Inv-loop μ-loop
+same-length c = search needs
+
+same-length-2 : tie.Need-same-length-2 Inv-loop μ-loop
+same-length-2 c = search needs
+
+same-length-3 : tie.Need-same-length-3 Inv-loop μ-loop
+same-length-3 c = search needs
+
+returns : tie.Need-returns Inv-loop μ-loop
+returns c =
+    let first = c .before .before .before .before .before .before .before in
+    let asked-room = first .before .before .before .before in
+    table-fills _ (asked-room .before .before .before .before .before .before .before .before .pre) _ (asked-room .room-of .ensures)
+    (begin-cut setLayout _ _ (first .enter .ensures _) (c .if1 .taken))
+
+loop-holds : tie.Need-loop-holds Inv-loop μ-loop
+loop-holds c =
+    let first = c .before .before .before .before .before .before .before in
+    let start = first .before .before .before .before .before .before .before .before .before .before .before .before in
+    let M : Machine ℕ = machine 8 (asked (start .args .m) (start .args .arrows .now)) in (
+      record { masks = refl; from = refl; event = refl },
+      still-lent setLayout (goes (first .enter .ensures M)) (room-lent _ (first .before .before .before .before .room-of .ensures)),
+      λ old whole s. s,
+    )
+
+slice-read-set : tie.Need-slice-read-set Inv-loop μ-loop
+slice-read-set c = search needs
+
+cast-by-events : tie.Need-cast-by-events Inv-loop μ-loop
+cast-by-events c = search needs
+
+by-events-requires : tie.Need-by-events-requires Inv-loop μ-loop
+by-events-requires c κs =
+    let at = c .before .before .before .before .before in
+    let first = at .before .before .before .before .before .before .before .before in
+    (first .before .before .before .before .before .before .before .before .before .before .before .before .pre, at .loop .inv .1)
+
+same-length-4 : tie.Need-same-length-4 Inv-loop μ-loop
+same-length-4 c = search needs
+
+same-length-5 : tie.Need-same-length-5 Inv-loop μ-loop
+same-length-5 c = search needs
+
+same-length-6 : tie.Need-same-length-6 Inv-loop μ-loop
+same-length-6 c = search needs
+
+returns-2 : tie.Need-returns-2 Inv-loop μ-loop
+returns-2 c =
+    let called = c .before .before .before .before .before .before .before in
+    let turn = called .before .before .before .before .before in
+    let first = turn .before .before .before .before .before .before .before .before .before in
+    let asked-room = first .before .before .before .before in
+    table-fills _ (asked-room .before .before .before .before .before .before .before .before .pre) _ (asked-room .room-of .ensures)
+    (entries-cut setLayout _
+    (turn .before .loop .inv .2 _ _ (entries-begin setLayout _ _ (first .enter .ensures _) (turn .before .before .if1 .left)))
+    (turn .loop-test .taken) _ (read-at _ _ _ (turn .loop-test .taken)) refl (called .by-events .ensures) (c .if2 .taken))
+
+add-i : tie.Need-add-i Inv-loop μ-loop
+add-i c = search needs
+
+loop-less : tie.Need-loop-less Inv-loop μ-loop
+loop-less c = search needs
+
+loop-again : tie.Need-loop-again Inv-loop μ-loop
+loop-again c =
+    let called = c .before .before .before .before .before .before .before in
+    let turn = called .before .before .before .before .before in (
+      record { masks = search needs; from = search needs; event = search needs },
+      search needs,
+      λ old whole s.
+          entries-next setLayout _ (turn .before .loop .inv .2 old whole s) (turn .loop-test .taken) _
+          (read-at _ _ _ (turn .loop-test .taken)) refl (called .by-events .ensures) (c .if2 .left),
+    )
+
+same-length-7 : tie.Need-same-length-7 Inv-loop μ-loop
+same-length-7 c = search needs
+
+same-length-8 : tie.Need-same-length-8 Inv-loop μ-loop
+same-length-8 c = search needs
+
+same-length-9 : tie.Need-same-length-9 Inv-loop μ-loop
+same-length-9 c = search needs
+
+returns-3 : tie.Need-returns-3 Inv-loop μ-loop
+returns-3 c =
+    let first = c .before .before .before .before .before .before .before .before .before in
+    let asked-room = first .before .before .before .before in
+    table-fills _ (asked-room .before .before .before .before .before .before .before .before .pre) _ (asked-room .room-of .ensures)
+    (entries-done setLayout _
+    (c .before .loop .inv .2 _ _ (entries-begin setLayout _ _ (first .enter .ensures _) (c .before .before .if1 .left)))
+    (c .loop-test .left))
+
+pub close-spec : {M : Type 1} → statement M
+close-spec =
+    tie.close
+    (tie.spec
+    Inv-loop
+    μ-loop
+    room-of-requires
+    enter-requires
+    same-length
+    same-length-2
+    same-length-3
+    returns
+    loop-holds
+    slice-read-set
+    cast-by-events
+    by-events-requires
+    same-length-4
+    same-length-5
+    same-length-6
+    returns-2
+    add-i
+    loop-less
+    loop-again
+    same-length-7
+    same-length-8
+    same-length-9
+    returns-3)

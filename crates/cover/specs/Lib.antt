@@ -1,0 +1,4 @@
+-- What the contracts of the check cite beside the definitions of document 01: how code's numbers and slices stand for them.
+pub mod Values
+pub mod Memory
+pub mod Closing

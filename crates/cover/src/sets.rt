@@ -1,0 +1,148 @@
+// The sets, closed into three lent slices: a set's mask, the number of the set it came from, and its last event.
+ghost use Prim.Native.Nat.{ℕ, _≤_};
+ghost use mathlib.Core.Path.{_≡_};
+ghost use mathlib.Core.Option.{some};
+ghost use lib.ListN.{length, getD};
+ghost use lib.Dec.{eqb};
+ghost use Rattle.laws.specs.Model.{Machine, eight, machine};
+ghost use Rattle.laws.specs.Tables.{enter as entered, byEvents};
+ghost use Rattle.laws.specs.Profiles.{setValue, setTable};
+ghost use Rattle.laws.specs.Refusals.{Unrefused};
+ghost use Rattle.laws.specs.Answers.{setRoom, setSlices};
+ghost use Rattle.cover.specs.Values.{asked, FirstPlace};
+ghost use Rattle.cover.specs.Memory.{sets, setsIn, going, SetsLent, Fills};
+use crate::model::Model;
+use crate::profile::image;
+use crate::table::Filled;
+use crate::table::NO_ENTRY;
+use crate::table::NO_EVENT;
+use crate::table::least;
+
+// The place of a set among the first count masks; count where it is not there.
+fn find(masks: &[u8], count: usize, set: u8) -> usize
+    requires { ⌜ count ≤ length (now masks) ⌝ }
+    ensures { λ r. ⌜ FirstPlace (λ j. eqb (getD (now (masks .entry)) j 0) set) count r ⌝ }
+{
+    let mut i = 0;
+    while i < count {
+        if masks[i] == set {
+            return i;
+        }
+        i += 1;
+    }
+    count
+}
+
+// Enters a set that is not there yet, or cuts the table where there is no room.
+fn enter(
+    masks: &mut [u8],
+    from: &mut [u16],
+    event: &mut [u8],
+    count: usize,
+    room: usize,
+    set: u8,
+    before: u16,
+    last: u8,
+) -> Filled
+    requires { ⌜ SetsLent (sets (now masks) (now from) (now event)) count room ⌝ }
+    ensures { λ r. ⌜ ((M : Machine ℕ) → Fills setSlices room (entered (setValue 8 M) room (record { value = set; from = before; event = last }) (going (setsIn (sets (now (masks .entry)) (now (from .entry)) (now (event .entry))) count))) (sets (now (masks .entry)) (now (from .entry)) (now (event .entry))) (sets (now (masks .exit)) (now (from .exit)) (now (event .exit))) r) ⌝ }
+{
+    if find(masks, count, set) < count {
+        return Filled { count, cut: false };
+    }
+    if room <= count {
+        return Filled { count, cut: true };
+    }
+    masks[count] = set;
+    from[count] = before;
+    event[count] = last;
+    Filled {
+        count: count + 1,
+        cut: false,
+    }
+}
+
+// Enters what the k events make of one set.
+fn by_events(
+    m: Model,
+    arrows: &[u64],
+    masks: &mut [u8],
+    from: &mut [u16],
+    event: &mut [u8],
+    count: usize,
+    room: usize,
+    set: u8,
+    before: u16,
+) -> Filled
+    requires { ⌜ Unrefused eight (asked m (now arrows)) ⌝ }
+    requires { ⌜ SetsLent (sets (now masks) (now from) (now event)) count room ⌝ }
+    ensures { λ r. ⌜ Fills setSlices room (byEvents (setValue 8 (machine 8 (asked m (now (arrows .entry))))) room before (some set) (m .k) 0 (going (setsIn (sets (now (masks .entry)) (now (from .entry)) (now (event .entry))) count))) (sets (now (masks .entry)) (now (from .entry)) (now (event .entry))) (sets (now (masks .exit)) (now (from .exit)) (now (event .exit))) r ⌝ }
+{
+    let k = m.k;
+    let mut n = count;
+    let mut a = 0;
+    while a < k {
+        let filled = enter(
+            masks,
+            from,
+            event,
+            n,
+            room,
+            image(set, arrows[a]),
+            before,
+            a as u8,
+        );
+        if filled.cut {
+            return filled;
+        }
+        n = filled.count;
+        a += 1;
+    }
+    Filled {
+        count: n,
+        cut: false,
+    }
+}
+
+// The room: the least of the slices and the limit.
+fn room_of(masks: &[u8], from: &[u16], event: &[u8]) -> usize
+    ensures { λ r. ⌜ r ≡ setRoom eight (sets (now (masks .entry)) (now (from .entry)) (now (event .entry))) ⌝ }
+{
+    least(
+        least(masks.len(), least(from.len(), event.len())),
+        Model::SETS,
+    )
+}
+
+// Closes the sets of a model that is not refused.
+pub fn close(
+    m: Model,
+    arrows: &[u64],
+    masks: &mut [u8],
+    from: &mut [u16],
+    event: &mut [u8],
+) -> Filled
+    requires { ⌜ Unrefused eight (asked m (now arrows)) ⌝ }
+    ensures { λ r. ⌜ Fills setSlices (setRoom eight (sets (now (masks .entry)) (now (from .entry)) (now (event .entry)))) (setTable 8 (machine 8 (asked m (now (arrows .entry)))) (m .k) (setRoom eight (sets (now (masks .entry)) (now (from .entry)) (now (event .entry))))) (sets (now (masks .entry)) (now (from .entry)) (now (event .entry))) (sets (now (masks .exit)) (now (from .exit)) (now (event .exit))) r ⌝ }
+{
+    let room = room_of(masks, from, event);
+    let first = enter(masks, from, event, 0, room, m.start, NO_ENTRY, NO_EVENT);
+    if first.cut {
+        return first;
+    }
+    let mut n = first.count;
+    let mut i = 0;
+    while i < n {
+        let set = masks[i];
+        let filled = by_events(m, arrows, masks, from, event, n, room, set, i as u16);
+        if filled.cut {
+            return filled;
+        }
+        n = filled.count;
+        i += 1;
+    }
+    Filled {
+        count: n,
+        cut: false,
+    }
+}
