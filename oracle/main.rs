@@ -1,5 +1,6 @@
 //! A second opinion on models, by other means than the library it is compared with.
 
+mod bench;
 mod course;
 mod machine;
 mod model;
@@ -8,10 +9,13 @@ mod paths;
 mod profile;
 mod random;
 mod selftest;
+mod straight;
 mod tables;
+mod vectors;
 
 use course::letters;
 use model::{Model, Verdict};
+use std::path::Path;
 use tables::Tables;
 
 fn main() {
@@ -23,12 +27,14 @@ fn main() {
     std::process::exit(match words[..] {
         ["self-test"] => selftest::run(),
         ["verdict-c"] => print_verdict(&model::named("C")),
+        ["bench", ref program @ ..] if !program.is_empty() => bench::run(program),
+        ["vectors", folder] => vectors::write(Path::new(folder)),
         _ => usage(),
     });
 }
 
 fn usage() -> i32 {
-    eprintln!("usage: oracle self-test | verdict-c");
+    eprintln!("usage: oracle self-test | verdict-c | vectors FOLDER | bench PROGRAM...");
     2
 }
 
