@@ -33,10 +33,13 @@ module _ (m : Model) (arrows : List ℕ) (S : SetSlices) (T : ProfileSlices) whe
         profiles = cc;
         set-slices = cc;
         profile-slices = cc;
-        listed = λ all-sets hs all-profiles hp. closing-listed eight (asked m arrows) (setRoom eight S) (profileRoom eight T) all-sets hs all-profiles hp;
-        all-sets-stored = λ z. rw (of-sets, sets-are, setLayout .back es S) (rw (ap (λ c. c .sets) is) at (whole (sym number-is ∙ z) .sets-hold));
+        listed = closing-listed eight (asked m arrows) (setRoom eight S) (profileRoom eight T);
+        all-sets-stored =
+            λ z. rw (of-sets, sets-are, setLayout .back es S) (rw (ap (λ c. c .sets) is) at (whole (sym number-is ∙ z) .sets-hold));
         all-profiles-stored =
-            λ z. rw (of-profiles, profiles-are, profileLayout .back ts T) (rw (ap (λ c. c .profiles) is) at (whole (sym number-is ∙ z) .profiles-hold));
+            λ z.
+            rw (of-profiles, profiles-are, profileLayout .back ts T)
+            (rw (ap (λ c. c .profiles) is) at (whole (sym number-is ∙ z) .profiles-hold));
       }
     where
       whole : number ≡ 0 → Whole eight (asked m arrows) (setRoom eight S) (profileRoom eight T) (due m arrows S T)
@@ -69,17 +72,18 @@ module _ (m : Model) (arrows : List ℕ) (S : SetSlices) (T : ProfileSlices) whe
         built 4 _ [] _ (rw (sym passes, sym (f .cut) ∙ cut, closingAnswer)) (f .slices) no-profiles refl (f .count) refl
 
     module _ (uncut : s .cut ≡ false) {T′ : ProfileSlices} {t : Filled}
-        (g : Fills profileSlices (profileRoom eight T) (profileTable 8 (machine 8 (asked m arrows)) (m .k) (profileRoom eight T)) T T′ t) where
-      -- 5: all sets, and as many profiles as there is room
-      pub more-profiles : t .cut ≡ true → Closing m arrows S S′ T T′ (record { number = 5; sets = s .count; profiles = t .count })
-      unfolding closingIn closingAnswer
-      more-profiles cut =
-          built 5 _ _ _ (rw (sym passes, sym (f .cut) ∙ uncut, sym (g .cut) ∙ cut, closingAnswer)) (f .slices) (g .slices) refl
-          (f .count) (g .count)
+        (g : Fills profileSlices (profileRoom eight T) (profileTable 8 (machine 8 (asked m arrows)) (m .k) (profileRoom eight T)) T T′ t)
+      where
+        -- 5: all sets, and as many profiles as there is room
+        pub more-profiles : t .cut ≡ true → Closing m arrows S S′ T T′ (record { number = 5; sets = s .count; profiles = t .count })
+        unfolding closingIn closingAnswer
+        more-profiles cut =
+            built 5 _ _ _ (rw (sym passes, sym (f .cut) ∙ uncut, sym (g .cut) ∙ cut, closingAnswer)) (f .slices) (g .slices) refl
+            (f .count) (g .count)
 
-      -- 0: all sets and all profiles
-      pub complete : t .cut ≡ false → Closing m arrows S S′ T T′ (record { number = 0; sets = s .count; profiles = t .count })
-      unfolding closingIn closingAnswer
-      complete uncut-too =
-          built 0 _ _ _ (rw (sym passes, sym (f .cut) ∙ uncut, sym (g .cut) ∙ uncut-too, closingAnswer)) (f .slices) (g .slices) refl
-          (f .count) (g .count)
+        -- 0: all sets and all profiles
+        pub complete : t .cut ≡ false → Closing m arrows S S′ T T′ (record { number = 0; sets = s .count; profiles = t .count })
+        unfolding closingIn closingAnswer
+        complete uncut-too =
+            built 0 _ _ _ (rw (sym passes, sym (f .cut) ∙ uncut, sym (g .cut) ∙ uncut-too, closingAnswer)) (f .slices) (g .slices) refl
+            (f .count) (g .count)

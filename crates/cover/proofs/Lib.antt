@@ -12,3 +12,5 @@ pub mod ProfileTable
 pub mod Rebuilding
 -- the answer of closing
 pub mod Answering
+-- what follows from the contracts
+pub mod Promises

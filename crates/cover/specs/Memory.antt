@@ -58,6 +58,11 @@ pub record Fills {Value Slices : Type 0} (write : List (Entry Value) → Slices 
   pub cut : answer .cut ≡ t .cut
   pub within : answer .count ≤ room
 
+-- past the first count places everything is as it was, and the slice is as long as it was
+pub record Kept (count : ℕ) (old new : List ℕ) : Type 0 where
+  pub as-long : length new ≡ length old
+  pub past : (i : ℕ) → count ≤ i → getD new i 0 ≡ getD old i 0
+
 -- the two slices from which words are rebuilt, a place for each entry: a predecessor's number is smaller than the entry's, or there is none
 pub record Linked (from event : List ℕ) : Type 0 where
   pub events-there : length from ≤ length event

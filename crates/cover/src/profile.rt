@@ -36,7 +36,8 @@ fn leads_via(s: Profile, t: Profile, p: usize, r: usize, q: usize) -> bool
 // The same, and at least one of the two is marked.
 fn marks_via(s: Profile, t: Profile, p: usize, r: usize, q: usize) -> bool
     requires { ⌜ (p < 8) × (r < 8) × (q < 8) ⌝ }
-    ensures { λ b. ⌜ b ≡ (leadsTo 8 (profile s) p r && leadsTo 8 (profile t) r q && (marked 8 (profile s) p r || marked 8 (profile t) r q)) ⌝ }
+    ensures { λ b. ⌜ b ≡ (leadsTo 8 (profile s) p r && leadsTo 8 (profile t) r q
+        && (marked 8 (profile s) p r || marked 8 (profile t) r q)) ⌝ }
 {
     if leads_via(s, t, p, r, q) {
         has(s.marks, Model::STATES * p + r) || has(t.marks, Model::STATES * r + q)
@@ -62,7 +63,8 @@ fn leads_at(s: Profile, t: Profile, p: usize, q: usize) -> bool
 
 fn marks_at(s: Profile, t: Profile, p: usize, q: usize) -> bool
     requires { ⌜ (p < 8) × (q < 8) ⌝ }
-    ensures { λ b. ⌜ b ≡ someBelow 8 (λ r. leadsTo 8 (profile s) p r && leadsTo 8 (profile t) r q && (marked 8 (profile s) p r || marked 8 (profile t) r q)) ⌝ }
+    ensures { λ b. ⌜ b ≡ someBelow 8 (λ r. leadsTo 8 (profile s) p r && leadsTo 8 (profile t) r q
+        && (marked 8 (profile s) p r || marked 8 (profile t) r q)) ⌝ }
 {
     let mut r = 0;
     while r < Model::STATES {

@@ -1,7 +1,6 @@
 // The profiles, closed into four lent slices: a profile's arrows and marks, the number of the profile it came from, and its last event.
 ghost use Prim.Native.Nat.{ℕ, _≤_};
 ghost use mathlib.Core.Path.{_≡_};
-ghost use mathlib.Core.Option.{some};
 ghost use lib.ListN.{length, getD};
 ghost use Rattle.laws.specs.Model.{Machine, eight, machine};
 ghost use Rattle.laws.specs.Tables.{enter as entered, byEvents};
@@ -22,7 +21,9 @@ use crate::table::least;
 // The place of a profile among the first count; count where it is not there.
 fn find(arrows: &[u64], marks: &[u64], count: usize, x: Profile) -> usize
     requires { ⌜ (count ≤ length (now arrows)) × (count ≤ length (now marks)) ⌝ }
-    ensures { λ r. ⌜ FirstPlace (λ j. sameProfile (record { arrows = getD (now (arrows .entry)) j 0; marks = getD (now (marks .entry)) j 0 }) (profile x)) count r ⌝ }
+    ensures { λ r. ⌜ FirstPlace
+        (λ j. sameProfile (record { arrows = getD (now (arrows .entry)) j 0; marks = getD (now (marks .entry)) j 0 }) (profile x))
+        count r ⌝ }
 {
     let mut i = 0;
     while i < count {
@@ -47,7 +48,11 @@ fn enter(
     last: u8,
 ) -> Filled
     requires { ⌜ ProfilesLent (profiles (now arrows) (now marks) (now from) (now event)) count room ⌝ }
-    ensures { λ r. ⌜ ((M : Machine ℕ) → Fills profileSlices room (entered (profileValue 8 M) room (record { value = profile x; from = before; event = last }) (going (profilesIn (profiles (now (arrows .entry)) (now (marks .entry)) (now (from .entry)) (now (event .entry))) count))) (profiles (now (arrows .entry)) (now (marks .entry)) (now (from .entry)) (now (event .entry))) (profiles (now (arrows .exit)) (now (marks .exit)) (now (from .exit)) (now (event .exit))) r) ⌝ }
+    ensures { λ r. ⌜ ((M : Machine ℕ) → Fills profileSlices room
+        (entered (profileValue 8 M) room (record { value = profile x; from = before; event = last })
+        (going (profilesIn (profiles (now (arrows .entry)) (now (marks .entry)) (now (from .entry)) (now (event .entry))) count)))
+        (profiles (now (arrows .entry)) (now (marks .entry)) (now (from .entry)) (now (event .entry)))
+        (profiles (now (arrows .exit)) (now (marks .exit)) (now (from .exit)) (now (event .exit))) r) ⌝ }
 {
     if find(arrows, marks, count, x) < count {
         return Filled { count, cut: false };
@@ -80,7 +85,11 @@ fn by_events(
 ) -> Filled
     requires { ⌜ Unrefused eight (asked m (now lent)) ⌝ }
     requires { ⌜ ProfilesLent (profiles (now arrows) (now marks) (now from) (now event)) count room ⌝ }
-    ensures { λ r. ⌜ Fills profileSlices room (byEvents (profileValue 8 (machine 8 (asked m (now (lent .entry))))) room before (beforeOf x) (m .k) 0 (going (profilesIn (profiles (now (arrows .entry)) (now (marks .entry)) (now (from .entry)) (now (event .entry))) count))) (profiles (now (arrows .entry)) (now (marks .entry)) (now (from .entry)) (now (event .entry))) (profiles (now (arrows .exit)) (now (marks .exit)) (now (from .exit)) (now (event .exit))) r ⌝ }
+    ensures { λ r. ⌜ Fills profileSlices room
+        (byEvents (profileValue 8 (machine 8 (asked m (now (lent .entry))))) room before (beforeOf x) (m .k) 0
+        (going (profilesIn (profiles (now (arrows .entry)) (now (marks .entry)) (now (from .entry)) (now (event .entry))) count)))
+        (profiles (now (arrows .entry)) (now (marks .entry)) (now (from .entry)) (now (event .entry)))
+        (profiles (now (arrows .exit)) (now (marks .exit)) (now (from .exit)) (now (event .exit))) r ⌝ }
 {
     let k = m.k;
     let mut n = count;
@@ -123,7 +132,11 @@ pub fn close(
     event: &mut [u8],
 ) -> Filled
     requires { ⌜ Unrefused eight (asked m (now lent)) ⌝ }
-    ensures { λ r. ⌜ Fills profileSlices (profileRoom eight (profiles (now (arrows .entry)) (now (marks .entry)) (now (from .entry)) (now (event .entry)))) (profileTable 8 (machine 8 (asked m (now (lent .entry)))) (m .k) (profileRoom eight (profiles (now (arrows .entry)) (now (marks .entry)) (now (from .entry)) (now (event .entry))))) (profiles (now (arrows .entry)) (now (marks .entry)) (now (from .entry)) (now (event .entry))) (profiles (now (arrows .exit)) (now (marks .exit)) (now (from .exit)) (now (event .exit))) r ⌝ }
+    ensures { λ r. ⌜ Fills profileSlices (profileRoom eight (profiles (now (arrows .entry)) (now (marks .entry)) (now (from .entry)) (now (event .entry))))
+        (profileTable 8 (machine 8 (asked m (now (lent .entry)))) (m .k)
+        (profileRoom eight (profiles (now (arrows .entry)) (now (marks .entry)) (now (from .entry)) (now (event .entry)))))
+        (profiles (now (arrows .entry)) (now (marks .entry)) (now (from .entry)) (now (event .entry)))
+        (profiles (now (arrows .exit)) (now (marks .exit)) (now (from .exit)) (now (event .exit))) r ⌝ }
 {
     let room = room_of(arrows, marks, from, event);
     let first = by_events(

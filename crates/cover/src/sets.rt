@@ -45,7 +45,11 @@ fn enter(
     last: u8,
 ) -> Filled
     requires { ⌜ SetsLent (sets (now masks) (now from) (now event)) count room ⌝ }
-    ensures { λ r. ⌜ ((M : Machine ℕ) → Fills setSlices room (entered (setValue 8 M) room (record { value = set; from = before; event = last }) (going (setsIn (sets (now (masks .entry)) (now (from .entry)) (now (event .entry))) count))) (sets (now (masks .entry)) (now (from .entry)) (now (event .entry))) (sets (now (masks .exit)) (now (from .exit)) (now (event .exit))) r) ⌝ }
+    ensures { λ r. ⌜ ((M : Machine ℕ) → Fills setSlices room
+        (entered (setValue 8 M) room (record { value = set; from = before; event = last })
+        (going (setsIn (sets (now (masks .entry)) (now (from .entry)) (now (event .entry))) count)))
+        (sets (now (masks .entry)) (now (from .entry)) (now (event .entry)))
+        (sets (now (masks .exit)) (now (from .exit)) (now (event .exit))) r) ⌝ }
 {
     if find(masks, count, set) < count {
         return Filled { count, cut: false };
@@ -76,7 +80,11 @@ fn by_events(
 ) -> Filled
     requires { ⌜ Unrefused eight (asked m (now arrows)) ⌝ }
     requires { ⌜ SetsLent (sets (now masks) (now from) (now event)) count room ⌝ }
-    ensures { λ r. ⌜ Fills setSlices room (byEvents (setValue 8 (machine 8 (asked m (now (arrows .entry))))) room before (some set) (m .k) 0 (going (setsIn (sets (now (masks .entry)) (now (from .entry)) (now (event .entry))) count))) (sets (now (masks .entry)) (now (from .entry)) (now (event .entry))) (sets (now (masks .exit)) (now (from .exit)) (now (event .exit))) r ⌝ }
+    ensures { λ r. ⌜ Fills setSlices room
+        (byEvents (setValue 8 (machine 8 (asked m (now (arrows .entry))))) room before (some set) (m .k) 0
+        (going (setsIn (sets (now (masks .entry)) (now (from .entry)) (now (event .entry))) count)))
+        (sets (now (masks .entry)) (now (from .entry)) (now (event .entry)))
+        (sets (now (masks .exit)) (now (from .exit)) (now (event .exit))) r ⌝ }
 {
     let k = m.k;
     let mut n = count;
@@ -123,7 +131,11 @@ pub fn close(
     event: &mut [u8],
 ) -> Filled
     requires { ⌜ Unrefused eight (asked m (now arrows)) ⌝ }
-    ensures { λ r. ⌜ Fills setSlices (setRoom eight (sets (now (masks .entry)) (now (from .entry)) (now (event .entry)))) (setTable 8 (machine 8 (asked m (now (arrows .entry)))) (m .k) (setRoom eight (sets (now (masks .entry)) (now (from .entry)) (now (event .entry))))) (sets (now (masks .entry)) (now (from .entry)) (now (event .entry))) (sets (now (masks .exit)) (now (from .exit)) (now (event .exit))) r ⌝ }
+    ensures { λ r. ⌜ Fills setSlices (setRoom eight (sets (now (masks .entry)) (now (from .entry)) (now (event .entry))))
+        (setTable 8 (machine 8 (asked m (now (arrows .entry)))) (m .k)
+        (setRoom eight (sets (now (masks .entry)) (now (from .entry)) (now (event .entry)))))
+        (sets (now (masks .entry)) (now (from .entry)) (now (event .entry)))
+        (sets (now (masks .exit)) (now (from .exit)) (now (event .exit))) r ⌝ }
 {
     let room = room_of(masks, from, event);
     let first = enter(masks, from, event, 0, room, m.start, NO_ENTRY, NO_EVENT);

@@ -28,6 +28,10 @@ use Rattle.laws.proofs.Verdicts.{verdict-right}
 use Rattle.laws.proofs.Opposites.{opposed}
 use Rattle.laws.proofs.Unrefused.{unrefused}
 
+-- a table up to a room has no more entries than that
+fits : {Value : Type 0} {room : ℕ} {complete : List (Entry Value)} {t : Table Value} → UpTo room complete t → length (t .entries) ≤ room
+fits {room = room} {complete = complete} u = omega (arith, ap length (u .first), length-take room complete)
+
 -- a and b are the rooms for sets and profiles; W and M are the model's, S and T its tables with these rooms, and C the answer of closing
 module _ (K : Kind) (m : Model) (a b : ℕ) where
   abbrev W : ℕ
@@ -101,6 +105,26 @@ module _ (K : Kind) (m : Model) (a b : ℕ) where
       go zero false false f p q =
           rw (f, p, q, closingOf) (closing-0 f sets hs (ltb-false a (length sets) p) profiles hp (ltb-false b (length profiles) q))
 
+  -- whatever the number, no more is entered than there is room
+  sets-fit : length (S .entries) ≤ a
+  unfolding setTable
+  sets-fit = fits (sets-closing W M (m .k) .up-to-room a)
+
+  profiles-fit : length (T .entries) ≤ b
+  unfolding profileTable
+  profiles-fit = fits (profiles-closing W M (m .k) .up-to-room b)
+
+  pub closing-within : (length (C .sets) ≤ a) × (length (C .profiles) ≤ b)
+  unfolding closingAnswer
+  closing-within = go (firstOf (modelChecks K m) .number) (S .cut) (T .cut) refl refl refl
+    where
+      go : (n : ℕ) (s t : Bool) → firstOf (modelChecks K m) .number ≡ n → S .cut ≡ s → T .cut ≡ t
+          → (length (C .sets) ≤ a) × (length (C .profiles) ≤ b)
+      go (suc n) s t f p q = rw (f, closingAnswer) (omega arith)
+      go zero true t f p q = rw (f, p, closingAnswer) (sets-fit, omega arith)
+      go zero false true f p q = rw (f, p, q, closingAnswer) (sets-fit, profiles-fit)
+      go zero false false f p q = rw (f, p, q, closingAnswer) (sets-fit, profiles-fit)
+
   -- the tables of an answer hold all sets and profiles of a model that is not refused with 1, 2 or 3, within their rooms
   pub record Whole (c : ClosingAnswer) : Type 0 where
     pub model : Unrefused K m
@@ -114,24 +138,18 @@ module _ (K : Kind) (m : Model) (a b : ℕ) where
   unfolding closingAnswer setTable profileTable
   closing-whole h = go (firstOf (modelChecks K m) .number) (S .cut) (T .cut) refl refl refl
     where
-      fits : {Value : Type 0} {room : ℕ} {complete : List (Entry Value)} {t : Table Value} → UpTo room complete t
-          → length (t .entries) ≤ room
-      fits {room = room} {complete = complete} u = omega (arith, ap length (u .first), length-take room complete)
-
       go : (n : ℕ) (s t : Bool) → firstOf (modelChecks K m) .number ≡ n → S .cut ≡ s → T .cut ≡ t → Whole C
       go (suc n) s t f p q = absurd (omega (arith, rw (f, closingAnswer) at h))
       go zero true t f p q = absurd (omega (arith, rw (f, p, closingAnswer) at h))
       go zero false true f p q = absurd (omega (arith, rw (f, p, q, closingAnswer) at h))
       go zero false false f p q =
-          let sets = sets-closing W M (m .k) in
-          let profiles = profiles-closing W M (m .k) in
           rw (f, p, q, closingAnswer)
           (record {
             model = unrefused K m f;
-            sets-hold = sets .uncut a p;
-            profiles-hold = profiles .uncut b q;
-            sets-fit = fits (sets .up-to-room a);
-            profiles-fit = fits (profiles .up-to-room b);
+            sets-hold = sets-closing W M (m .k) .uncut a p;
+            profiles-hold = profiles-closing W M (m .k) .uncut b q;
+            sets-fit = sets-fit;
+            profiles-fit = profiles-fit;
           })
 
   -- the verdict on the closed tables

@@ -1,0 +1,86 @@
+-- WHAT FOLLOWS FROM THE CONTRACT OF EACH PUBLIC CALL: no second result meets it, and what is past a count stays as it was.
+use Prim.Native.Nat.{ℕ, _≤_}
+use native.Mathlib.Omega.{arith}
+use mathlib.Core.Path.{_≡_, refl, sym, ap, ap₂, _∙_}
+use mathlib.Core.List.{List, map}
+use lib.ListN.{length, length-map}
+use Rattle.laws.specs.Model.{eight}
+use Rattle.laws.specs.Tables.{Entry}
+use Rattle.laws.specs.Profiles.{Profile, values}
+use Rattle.laws.specs.Answers.{SetSlices, ProfileSlices, setRoom, profileRoom, over, setSlices, profileSlices, closingIn}
+use Rattle.laws.proofs.Answered.{closing-within}
+use Rattle.cover.specs.Values.{asked}
+use Rattle.cover.specs.Memory.{Kept}
+use Rattle.cover.specs.Closing.{Closing, due}
+use Rattle.cover.specs.declared.Closed.{Closed}
+use Rattle.cover.specs.declared.model.Model.{Model}
+use Rattle.cover.proofs.Slices.{over-length, over-past}
+use Rattle.cover.proofs.SetTable as of-sets
+use Rattle.cover.proofs.ProfileTable as of-profiles
+
+-- writing within a slice leaves the rest of it
+written : (xs old : List ℕ) (count : ℕ) → length xs ≡ count → count ≤ length old → Kept count old (over xs old)
+written xs old count e l = record { as-long = over-length xs old (omega arith); past = λ i h. over-past xs old i (omega arith) }
+
+-- an answer is its three numbers
+same-answer : (a b : Closed) → a .number ≡ b .number → a .sets ≡ b .sets → a .profiles ≡ b .profiles → a ≡ b
+same-answer a b n s p =
+    ap (λ x. record { number = x; sets = a .sets; profiles = a .profiles }) n
+    ∙ ap₂ (λ x y. record { number = b .number; sets = x; profiles = y }) s p
+
+module _ {m : Model} {arrows : List ℕ} {S S′ : SetSlices} {T T′ : ProfileSlices} {answer : Closed}
+    (c : Closing m arrows S S′ T T′ answer) where
+  -- CLOSING has one result: the answer, and what all lent memory holds
+  pub one-closing : {S″ : SetSlices} {T″ : ProfileSlices} {other : Closed} → Closing m arrows S S″ T T″ other
+      → (answer ≡ other) × (S′ ≡ S″) × (T′ ≡ T″)
+  one-closing d = (
+    same-answer answer _ (c .number ∙ sym (d .number)) (c .sets ∙ sym (d .sets)) (c .profiles ∙ sym (d .profiles)),
+    c .set-slices ∙ sym (d .set-slices),
+    c .profile-slices ∙ sym (d .profile-slices),
+  )
+
+  -- the counts are within the rooms
+  pub sets-within : answer .sets ≤ setRoom eight S
+  unfolding closingIn
+  sets-within = omega (arith, c .sets, closing-within eight (asked m arrows) (setRoom eight S) (profileRoom eight T))
+
+  pub profiles-within : answer .profiles ≤ profileRoom eight T
+  unfolding closingIn
+  profiles-within = omega (arith, c .profiles, closing-within eight (asked m arrows) (setRoom eight S) (profileRoom eight T))
+
+  -- and past them no lent slice has changed
+  pub sets-kept : Kept (answer .sets) (S .masks) (S′ .masks) × Kept (answer .sets) (S .from) (S′ .from)
+      × Kept (answer .sets) (S .event) (S′ .event)
+  unfolding setSlices values
+  sets-kept =
+      let lent = of-sets.room-lent S refl in
+      rw (c .set-slices) (
+        column (λ e. e .value) (omega (arith, sets-within)),
+        column (λ e. e .from) (omega (arith, sets-within)),
+        column (λ e. e .event) (omega (arith, sets-within)),
+      )
+    where
+      column : (f : Entry ℕ → ℕ) {old : List ℕ} → answer .sets ≤ length old → Kept (answer .sets) old (over (map f (due m arrows S T .sets)) old)
+      column f l = written _ _ (answer .sets) (length-map (due m arrows S T .sets) f ∙ sym (c .sets)) l
+
+  pub profiles-kept : Kept (answer .profiles) (T .arrows) (T′ .arrows) × Kept (answer .profiles) (T .marks) (T′ .marks)
+      × Kept (answer .profiles) (T .from) (T′ .from) × Kept (answer .profiles) (T .event) (T′ .event)
+  unfolding profileSlices values
+  profiles-kept =
+      let lent = of-profiles.room-lent T refl in
+      rw (c .profile-slices) (
+        value (λ t. t .arrows) (omega (arith, profiles-within)),
+        value (λ t. t .marks) (omega (arith, profiles-within)),
+        column (λ e. e .from) (omega (arith, profiles-within)),
+        column (λ e. e .event) (omega (arith, profiles-within)),
+      )
+    where
+      ts : List (Entry Profile)
+      ts = due m arrows S T .profiles
+
+      column : (f : Entry Profile → ℕ) {old : List ℕ} → answer .profiles ≤ length old → Kept (answer .profiles) old (over (map f ts) old)
+      column f l = written _ _ (answer .profiles) (length-map ts f ∙ sym (c .profiles)) l
+
+      value : (f : Profile → ℕ) {old : List ℕ} → answer .profiles ≤ length old
+          → Kept (answer .profiles) old (over (map f (map (λ e. e .value) ts)) old)
+      value f l = written _ _ (answer .profiles) (length-map (map (λ e. e .value) ts) f ∙ length-map ts (λ e. e .value) ∙ sym (c .profiles)) l
