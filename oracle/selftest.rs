@@ -6,7 +6,8 @@ use crate::opposite::{counted, Opposite, Size};
 use crate::paths;
 use crate::profile::Profile;
 use crate::random::Random;
-use crate::tables::{Table, Tables};
+use crate::straight::Lent;
+use crate::tables::{Entry, Table, Tables};
 use std::collections::HashSet;
 use std::fmt::{self, Debug};
 use std::hash::Hash;
@@ -15,7 +16,7 @@ use std::panic::{catch_unwind, AssertUnwindSafe};
 type Outcome = Result<String, String>;
 type Property = fn() -> Outcome;
 
-const PROPERTIES: [(&str, Property); 10] = [
+const PROPERTIES: [(&str, Property); 11] = [
     ("known courses", known_courses),
     ("search against meaning", search_against_meaning),
     ("hand-worked models", hand_worked_models),
@@ -26,6 +27,7 @@ const PROPERTIES: [(&str, Property); 10] = [
     ("model and opposite never agree", never_agree),
     ("tables against paths", tables_against_paths),
     ("counts of the opposite", counts_of_opposite),
+    ("straight look-up against hash maps", straight_look_up),
 ];
 
 pub fn run() -> i32 {
@@ -571,4 +573,38 @@ fn check_size(model: &Model, tables: &Tables, size: Size) -> Result<(), String> 
     let sorted = opposite.arrows.windows(2).all(|pair| pair[0] < pair[1]);
     expect(&format!("{}, size", model), opposite.size(), size)?;
     expect(&format!("{}, strictly sorted", model), sorted, true)
+}
+
+/// The two ways to close share one event's profile and nothing else.
+fn straight_look_up() -> Outcome {
+    let mut random = Random::new(9);
+    let (mut whole, mut cut) = (0, 0);
+    for round in 0..600 {
+        let most = if round % 20 == 0 { (8, 16) } else { (5, 3) };
+        let model = random.model_up_to(most.0, most.1);
+        let tables = Tables::close(&model, None, None);
+        let mut lent = Lent::cleared();
+        let (sets, profiles, was_cut) = lent.close(&model);
+        let place = format!("{}, straight look-up", model);
+        expect(&place, was_cut, tables.refusal() != 0)?;
+        expect_list(&place, &lent.rows(sets, profiles), &rows(&tables))?;
+        whole += usize::from(!was_cut);
+        cut += usize::from(was_cut);
+    }
+    at_least(300, whole, "models closed whole")?;
+    at_least(3, cut, "models cut")?;
+    Ok(format!("{} models closed, {} cut", whole, cut))
+}
+
+fn rows(tables: &Tables) -> Vec<Vec<u64>> {
+    fn row<V>(entry: &Entry<V>, mut value: Vec<u64>) -> Vec<u64> {
+        value.extend([entry.predecessor as u64, entry.event.into()]);
+        value
+    }
+    let sets = tables.sets.entries.iter();
+    let profiles = tables.profiles.entries.iter();
+    let of_set = |entry: &Entry<u8>| row(entry, vec![entry.value.into()]);
+    let of_profile =
+        |entry: &Entry<Profile>| row(entry, vec![entry.value.arrows(), entry.value.marks()]);
+    sets.map(of_set).chain(profiles.map(of_profile)).collect()
 }

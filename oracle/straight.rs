@@ -66,6 +66,22 @@ impl Lent {
         }
     }
 
+    /// The entries that stand there, each as its numbers.
+    pub fn rows(&self, sets: usize, profiles: usize) -> Vec<Vec<u64>> {
+        let set = |i: usize| {
+            let (from, event) = (self.set_from[i].into(), self.set_event[i].into());
+            vec![self.masks[i].into(), from, event]
+        };
+        let profile = |i: usize| {
+            let (from, event) = (self.profile_from[i].into(), self.profile_event[i].into());
+            vec![self.arrows[i], self.marks[i], from, event]
+        };
+        (0..sets)
+            .map(set)
+            .chain((0..profiles).map(profile))
+            .collect()
+    }
+
     /// How many sets and profiles there are, and whether a table was cut.
     pub fn close(&mut self, model: &Model) -> (usize, usize, bool) {
         let events: Vec<Packed> = (0..model.k)

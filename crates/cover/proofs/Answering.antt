@@ -12,7 +12,7 @@ use Rattle.laws.specs.Answers.{SetSlices, ProfileSlices, setRoom, profileRoom, 
 use Rattle.laws.specs.Answers.{closingAnswer, closingIn}
 use Rattle.laws.proofs.Answered.{Whole, closing-refused, closing-listed, closing-whole}
 use Rattle.cover.specs.Values.{asked}
-use Rattle.cover.specs.Memory.{setsIn, profilesIn, Fills}
+use Rattle.cover.specs.Memory.{Fills}
 use Rattle.cover.specs.Closing.{Closing, due}
 use Rattle.cover.proofs.SetTable.{setLayout}
 use Rattle.cover.proofs.ProfileTable.{profileLayout}

@@ -3,6 +3,8 @@ pub mod Searching
 pub mod Flags
 -- what is refused of a model
 pub mod Beyond
+-- what an event is and does
+pub mod Lent
 -- lent slices, a table filled into them, and the two tables
 pub mod Slices
 pub mod Filling

@@ -1,23 +1,18 @@
 -- The table of profiles: what an event makes of a profile, its four slices, and what the table begins with.
 use Prim.Native.Nat.{ℕ, _≤_, _<_}
 use native.Mathlib.Omega.{arith}
-use mathlib.Core.Path.{_≡_, refl, sym, ap, ap₂, _∙_}
-use mathlib.Core.Bool.{Bool, _&&_}
+use mathlib.Core.Path.{_≡_, refl, sym, ap, _∙_}
 use mathlib.Core.Option.{none, some}
 use mathlib.Core.List.{List, [], _∷_, _++_, map}
 use lib.ListN.{length, getD, getElem?, set}
-use Rattle.laws.specs.Bits.{bit, cell, grid, counted}
-use Rattle.laws.specs.Model.{Machine, Model, eight, machine}
-use Rattle.laws.specs.Refusals.{Unrefused}
+use Rattle.laws.specs.Bits.{counted}
+use Rattle.laws.specs.Model.{Machine, eight}
 use Rattle.laws.specs.Tables.{Entry, noEntry, byEvents, byEntries, begun, made}
-use Rattle.laws.specs.Profiles.{Profile, sameProfile, values, leadsTo, join, eventProfile, nextProfile}
+use Rattle.laws.specs.Profiles.{Profile, sameProfile, values, join, eventProfile, nextProfile}
 use Rattle.laws.specs.Profiles.{profileFrom, profileOf, profileValue, profileTable}
 use Rattle.laws.specs.Answers.{ProfileSlices, over, profileRoom, profileSlices}
 use Rattle.laws.proofs.Booleans.{inside}
 use Rattle.laws.proofs.Places.{place-below}
-use Rattle.laws.proofs.Packing.{bit-fromBits, cell-grid, grid-below, same-cells}
-use Rattle.laws.proofs.Joins.{leads-event}
-use Rattle.laws.proofs.Unrefused.{home-mask, event-arrows}
 use Rattle.cover.specs.Values as code
 use Rattle.cover.specs.Memory.{profiles, entriesIn, profilesIn, going, ProfilesLent, Fills}
 use Rattle.cover.specs.declared.table.Filled.{Filled}
@@ -28,40 +23,12 @@ use Rattle.cover.proofs.Slices.{column-again, column-at, column-length,
 use Rattle.cover.proofs.Slices.{entries-length, entries-at, entries-are}
 use Rattle.cover.proofs.Filling.{Layout}
 
-module _ (m : Model) (u : Unrefused eight m) where
-  abbrev M : Machine ℕ
-  M = machine 8 m
-
-  -- the profile of an event is that of its lent number and the home mask
-  event-value : (a : ℕ) → a < m .k → code.eventValue (getD (m .arrows) a 0) (m .home) ≡ eventProfile 8 M a
-  unfolding code.eventValue eventProfile leadsTo
-  event-value a l =
-      ap₂ (λ arrows marks. record { arrows = arrows; marks = marks }) (sym arrows-lent)
-      (same-cells 8 (grid 8 lent) (grid 8 marks) (grid-below 8 lent) (grid-below 8 marks)
-      (λ p q hp hq. cell-grid 8 lent p q hp hq ∙ ap₂ _&&_ (leads p q hp hq) (home q hq) ∙ sym (cell-grid 8 marks p q hp hq)))
-    where
-      lent : ℕ → ℕ → Bool
-      lent p q = cell 8 (getD (m .arrows) a 0) p q && bit (m .home) q
-
-      marks : ℕ → ℕ → Bool
-      marks p q = M .arrow p a q && M .home q
-
-      arrows-lent : eventProfile 8 M a .arrows ≡ getD (m .arrows) a 0
-      arrows-lent = event-arrows eight m u a l
-
-      leads : (p q : ℕ) → p < 8 → q < 8 → cell 8 (getD (m .arrows) a 0) p q ≡ M .arrow p a q
-      leads p q hp hq = ap (λ x. cell 8 x p q) (sym arrows-lent) ∙ leads-event 8 M a p q hp hq
-
-      home : (q : ℕ) → q < 8 → bit (m .home) q ≡ M .home q
-      home q hq = ap (λ x. bit x q) (sym (home-mask eight m u)) ∙ bit-fromBits 8 (M .home) q hq
-
-  -- WHAT AN EVENT MAKES of the profile of what was read so far, as the code makes it of these numbers
-  pub next-value : (a : ℕ) → a < m .k → (x : Before) {event y : declared.Profile}
-      → code.profile event ≡ code.eventValue (getD (m .arrows) a 0) (m .home) → code.profile y ≡ code.nextValue x event
-      → code.profile y ≡ profileValue 8 M .next (code.before x) a
-  unfolding profileValue nextProfile
-  next-value a l Nothing e h = h ∙ e ∙ event-value a l
-  next-value a l (Word t) e h = h ∙ ap (join 8 (code.profile t)) (e ∙ event-value a l)
+-- WHAT AN EVENT MAKES of the profile of what was read so far
+pub next-value : (M : Machine ℕ) (a : ℕ) (x : Before) {event y : declared.Profile} → code.profile event ≡ eventProfile 8 M a
+    → code.profile y ≡ code.nextValue x event → code.profile y ≡ profileValue 8 M .next (code.before x) a
+unfolding profileValue nextProfile
+next-value M a Nothing e h = h ∙ e
+next-value M a (Word t) e h = h ∙ ap (join 8 (code.profile t)) e
 
 -- the entry that stands in place i of the slices
 abbrev pub profileAt : ProfileSlices → ℕ → Entry Profile

@@ -9,14 +9,12 @@ use lib.Dec.{eqb}
 use Rattle.laws.specs.Bits.{counted}
 use Rattle.laws.specs.Model.{Machine, Model, eight, machine}
 use Rattle.laws.specs.Tables.{Entry, Table, noEntry, noEvent, enter, byEntries, begun, made}
-use Rattle.laws.specs.Profiles.{image, leadsTo, values, setFrom, setOf, nextSet, setValue, setTable}
+use Rattle.laws.specs.Profiles.{values, setFrom, setOf, setValue, setTable}
 use Rattle.laws.specs.Refusals.{Unrefused}
 use Rattle.laws.specs.Answers.{SetSlices, over, setRoom, setSlices}
 use Rattle.laws.proofs.Booleans.{inside}
 use Rattle.laws.proofs.Places.{place-below}
-use Rattle.laws.proofs.Joins.{after-event}
-use Rattle.laws.proofs.Unrefused.{start-mask, event-arrows}
-use Rattle.cover.specs.Values.{plain}
+use Rattle.laws.proofs.Unrefused.{start-mask}
 use Rattle.cover.specs.Memory.{sets, entriesIn, setsIn, going, SetsLent, Fills}
 use Rattle.cover.specs.declared.table.Filled.{Filled}
 use Rattle.cover.proofs.Slices.{column-again, column-at, column-length, column-same, column-set}
@@ -128,16 +126,7 @@ pub room-lent : (l : SetSlices) {room : ℕ} → room ≡ setRoom eight l → Se
 unfolding setRoom
 room-lent l p = omega arith
 
--- the first k events of M lead a set where the lent arrows do
-abbrev pub Leads : Machine ℕ → List ℕ → ℕ → ℕ → Type 0
-Leads M arrows k P = (a : ℕ) → a < k → image 8 P (plain (getD arrows a 0)) ≡ setValue 8 M .next (some P) a
-
 module _ (m : Model) (u : Unrefused eight m) where
-  -- WHAT AN EVENT MAKES OF A SET is what its lent arrows lead it to
-  pub next-set : (P : ℕ) → Leads (machine 8 m) (m .arrows) (m .k) P
-  unfolding setValue nextSet image leadsTo
-  next-set P a l = rw (after-event 8 (machine 8 m) a P, ← event-arrows eight m u a l)
-
   -- a table that begins with the set P and goes on by its entries
   abbrev from-set : ℕ → ℕ → SetSlices → Table ℕ
   from-set P room l =

@@ -1,6 +1,7 @@
 // The check. Each public call takes any numbers and any lent slices, and says in its contract what it answers and what every lent slice
 // holds afterwards.
 mod bits;
+mod events;
 mod model;
 mod profile;
 mod profiles;

@@ -9,11 +9,11 @@ ghost use Rattle.laws.specs.Refusals.{Unrefused};
 ghost use Rattle.laws.specs.Answers.{profileRoom, profileSlices};
 ghost use Rattle.cover.specs.Values.{asked, profile, before as beforeOf, FirstPlace};
 ghost use Rattle.cover.specs.Memory.{profiles, profilesIn, going, ProfilesLent, Fills};
+use crate::events::profile_of;
 use crate::model::Model;
 use crate::profile::Before;
 use crate::profile::Profile;
 use crate::profile::next;
-use crate::profile::of_event;
 use crate::table::Filled;
 use crate::table::NO_ENTRY;
 use crate::table::least;
@@ -91,11 +91,10 @@ fn by_events(
         (profiles (now (arrows .entry)) (now (marks .entry)) (now (from .entry)) (now (event .entry)))
         (profiles (now (arrows .exit)) (now (marks .exit)) (now (from .exit)) (now (event .exit))) r ⌝ }
 {
-    let k = m.k;
     let mut n = count;
     let mut a = 0;
-    while a < k {
-        let y = next(x, of_event(lent[a], m.home));
+    while a < m.k {
+        let y = next(x, profile_of(m, lent, a));
         let filled = enter(arrows, marks, from, event, n, room, y, before, a as u8);
         if filled.cut {
             return filled;

@@ -11,8 +11,8 @@ ghost use Rattle.laws.specs.Refusals.{Unrefused};
 ghost use Rattle.laws.specs.Answers.{setRoom, setSlices};
 ghost use Rattle.cover.specs.Values.{asked, FirstPlace};
 ghost use Rattle.cover.specs.Memory.{sets, setsIn, going, SetsLent, Fills};
+use crate::events::after;
 use crate::model::Model;
-use crate::profile::image;
 use crate::table::Filled;
 use crate::table::NO_ENTRY;
 use crate::table::NO_EVENT;
@@ -86,17 +86,16 @@ fn by_events(
         (sets (now (masks .entry)) (now (from .entry)) (now (event .entry)))
         (sets (now (masks .exit)) (now (from .exit)) (now (event .exit))) r ⌝ }
 {
-    let k = m.k;
     let mut n = count;
     let mut a = 0;
-    while a < k {
+    while a < m.k {
         let filled = enter(
             masks,
             from,
             event,
             n,
             room,
-            image(set, arrows[a]),
+            after(m, arrows, set, a),
             before,
             a as u8,
         );

@@ -8,34 +8,28 @@ use Rattle.laws.specs.Profiles.{Profile, profileValue}
 use Rattle.laws.specs.Answers.{ProfileSlices, profileSlices}
 use Rattle.cover.specs.Values.{asked, before as beforeOf}
 use Rattle.cover.specs.Memory.{profiles, profilesIn, going}
-use Rattle.cover.proofs.Filling.{ByEvents, events-begin, events-cut, events-next, events-done, still-lent}
+use Rattle.cover.proofs.Filling.{ByEvents, still-lent, events-begin, events-cut, events-next, events-done}
 use Rattle.cover.proofs.ProfileTable.{next-value, profileLayout, SameLengths}
 use Rattle.cover.proofs.profiles.by_events.Statement.{statement}
 use Rattle.cover.proofs.profiles.by_events.Tie as tie
 
 abbrev Inv-loop : tie.InvT-loop
-Inv-loop m lent arrows₀ marks₀ from₀ event₀ count room x before k n₀ a₀ arrows marks from event n a =
+Inv-loop m lent arrows₀ marks₀ from₀ event₀ count room x before n₀ a₀ arrows marks from event n a =
     let Val : WordValue Profile = profileValue 8 (machine 8 (asked m lent)) in
     let old : ProfileSlices = profiles arrows₀ marks₀ from₀ event₀ in
     let now : ProfileSlices = profiles arrows marks from event in
     SameLengths old now
-    × ByEvents Val profileSlices room before (beforeOf x) k
+    × ByEvents Val profileSlices room before (beforeOf x) (m .k)
     (byEvents Val room before (beforeOf x) (m .k) 0 (going (profilesIn old count))) old now n a
 
 abbrev μ-loop : tie.MeasureT-loop
-μ-loop m lent arrows₀ marks₀ from₀ event₀ count room x before k n₀ a₀ arrows marks from event n a = k - a
+μ-loop m lent arrows₀ marks₀ from₀ event₀ count room x before n₀ a₀ arrows marks from event n a = m .k - a
 
 loop-holds : tie.Need-loop-holds Inv-loop μ-loop
 loop-holds c = (search needs, events-begin profileLayout _ _ _ (c .before .before .before .before .before .pre .1))
 
-mul-of-event : tie.Need-mul-of-event Inv-loop μ-loop
-mul-of-event c = search needs
-
-shared-slice-read-of-event : tie.Need-shared-slice-read-of-event Inv-loop μ-loop
-shared-slice-read-of-event c = search needs
-
-of-event-requires : tie.Need-of-event-requires Inv-loop μ-loop
-of-event-requires c κs = search needs
+profile-of-requires : tie.Need-profile-of-requires Inv-loop μ-loop
+profile-of-requires c κs = (c .before .before .before .before .before .before .before .before .pre .0, c .if1 .taken)
 
 next-requires : tie.Need-next-requires Inv-loop μ-loop
 next-requires c κs = search needs
@@ -64,11 +58,10 @@ returns : tie.Need-returns Inv-loop μ-loop
 returns c =
     let called = c .before .before .before .before .before .before .before .before .before in
     let made = called .before .before .before .before .before in
-    let turn = made .before .before .before in
-    let start = turn .before .before .before .before .before .before .before in
-    events-cut profileLayout _ (turn .before .loop .inv .1) (turn .loop-test .taken)
-    (next-value _ (start .pre .0) _ (turn .loop-test .taken) (start .args .x) (made .before .of-event .ensures) (made .next .ensures))
-    (called .enter .ensures _) (c .if1 .taken)
+    let turn = made .before .before in
+    let start = turn .before .before .before .before .before .before .before .before in
+    events-cut profileLayout _ (turn .before .before .loop .inv .1) (turn .if1 .taken)
+    (next-value _ _ (start .args .x) (made .before .profile-of .ensures) (made .next .ensures)) (called .enter .ensures _) (c .if2 .taken)
 
 add-a : tie.Need-add-a Inv-loop μ-loop
 add-a c = search needs
@@ -80,12 +73,11 @@ loop-again : tie.Need-loop-again Inv-loop μ-loop
 loop-again c =
     let called = c .before .before .before .before .before .before .before .before .before in
     let made = called .before .before .before .before .before in
-    let turn = made .before .before .before in
-    let start = turn .before .before .before .before .before .before .before in (
+    let turn = made .before .before in
+    let start = turn .before .before .before .before .before .before .before .before in (
       search needs,
-      events-next profileLayout _ (turn .before .loop .inv .1) (turn .loop-test .taken)
-          (next-value _ (start .pre .0) _ (turn .loop-test .taken) (start .args .x) (made .before .of-event .ensures) (made .next .ensures))
-          (called .enter .ensures _) (c .if1 .left),
+      events-next profileLayout _ (turn .before .before .loop .inv .1) (turn .if1 .taken)
+          (next-value _ _ (start .args .x) (made .before .profile-of .ensures) (made .next .ensures)) (called .enter .ensures _) (c .if2 .left),
     )
 
 same-length-5 : tie.Need-same-length-5 Inv-loop μ-loop
@@ -101,7 +93,7 @@ same-length-8 : tie.Need-same-length-8 Inv-loop μ-loop
 same-length-8 c = search needs
 
 returns-2 : tie.Need-returns-2 Inv-loop μ-loop
-returns-2 c = events-done profileLayout _ (c .before .loop .inv .1) (c .loop-test .left)
+returns-2 c = events-done profileLayout _ (c .before .before .loop .inv .1) (c .if1 .left)
 
 pub by-events-spec : {M : Type 1} → statement M
 by-events-spec =
@@ -110,9 +102,7 @@ by-events-spec =
     Inv-loop
     μ-loop
     loop-holds
-    mul-of-event
-    shared-slice-read-of-event
-    of-event-requires
+    profile-of-requires
     next-requires
     cast-enter
     enter-requires

@@ -1,52 +1,43 @@
--- Each turn enters what one event makes of the set. The loop keeps, of every machine whose events lead the set where the lent arrows do,
--- that the events still to come make its whole table of the entries so far.
+-- Each turn enters what one event makes of the set. The loop keeps that what the events from a on make of the entries so far is the whole
+-- table, and that the slices keep their lengths.
 use Prim.Native.Nat.{ℕ, _-_}
-use mathlib.Core.Path.{refl, _∙_}
 use mathlib.Core.Option.{some}
 use borrow.Author.Needs.{needs}
-use Rattle.laws.specs.Model.{Machine, machine}
-use Rattle.laws.specs.Tables.{byEvents}
-use Rattle.laws.specs.Profiles.{setValue}
+use Rattle.laws.specs.Model.{machine}
+use Rattle.laws.specs.Tables.{WordValue, byEvents}
+use Rattle.laws.specs.Profiles.{nextSet, setValue}
 use Rattle.laws.specs.Answers.{SetSlices, setSlices}
 use Rattle.cover.specs.Values.{asked}
-use Rattle.cover.specs.Memory.{sets, setsIn, going, SetsLent}
-use Rattle.cover.proofs.Filling.{ByEvents, goes, still-lent, events-begin, events-cut, events-next, events-done}
-use Rattle.cover.proofs.SetTable.{setLayout, SameLengths, Leads, next-set}
+use Rattle.cover.specs.Memory.{sets, setsIn, going}
+use Rattle.cover.proofs.Filling.{ByEvents, still-lent, events-begin, events-cut, events-next, events-done}
+use Rattle.cover.proofs.SetTable.{setLayout, SameLengths}
 use Rattle.cover.proofs.sets.by_events.Statement.{statement}
 use Rattle.cover.proofs.sets.by_events.Tie as tie
 
 abbrev Inv-loop : tie.InvT-loop
-Inv-loop arrows masks₀ from₀ event₀ count room set before k n₀ a₀ masks from event n a =
+Inv-loop m arrows masks₀ from₀ event₀ count room set before n₀ a₀ masks from event n a =
+    let Val : WordValue ℕ = setValue 8 (machine 8 (asked m arrows)) in
     let old : SetSlices = sets masks₀ from₀ event₀ in
     let now : SetSlices = sets masks from event in
     SameLengths old now
-    × SetsLent now n room
-    × ((M : Machine ℕ) → Leads M arrows k set
-    → ByEvents (setValue 8 M) setSlices room before (some set) k
-    (byEvents (setValue 8 M) room before (some set) k 0 (going (setsIn old count))) old now n a)
+    × ByEvents Val setSlices room before (some set) (m .k) (byEvents Val room before (some set) (m .k) 0 (going (setsIn old count))) old now n a
 
 abbrev μ-loop : tie.MeasureT-loop
-μ-loop arrows masks₀ from₀ event₀ count room set before k n₀ a₀ masks from event n a = k - a
+μ-loop m arrows masks₀ from₀ event₀ count room set before n₀ a₀ masks from event n a = m .k - a
 
 loop-holds : tie.Need-loop-holds Inv-loop μ-loop
-loop-holds c =
-    let lent = c .before .before .before .before .pre .1 in
-    (record { masks = refl; from = refl; event = refl }, lent, λ M leads. events-begin setLayout _ _ _ lent)
+loop-holds c = (search needs, events-begin setLayout _ _ _ (c .before .before .before .before .pre .1))
 
-mul-image : tie.Need-mul-image Inv-loop μ-loop
-mul-image c = search needs
-
-shared-slice-read-image : tie.Need-shared-slice-read-image Inv-loop μ-loop
-shared-slice-read-image c = search needs
-
-image-requires : tie.Need-image-requires Inv-loop μ-loop
-image-requires c κs = search needs
+after-requires : tie.Need-after-requires Inv-loop μ-loop
+after-requires c κs = (c .before .before .before .before .before .before .before .before .before .before .pre .0, c .before .before .before .if1 .taken)
 
 cast-enter : tie.Need-cast-enter Inv-loop μ-loop
 cast-enter c = search needs
 
 enter-requires : tie.Need-enter-requires Inv-loop μ-loop
-enter-requires c κs = search needs
+enter-requires c κs =
+    let at = c .before .before .before .before .before .before in
+    still-lent setLayout (at .loop .inv .1 .stands) (at .before .before .before .before .before .pre .1)
 
 same-length : tie.Need-same-length Inv-loop μ-loop
 same-length c = search needs
@@ -58,13 +49,12 @@ same-length-3 : tie.Need-same-length-3 Inv-loop μ-loop
 same-length-3 c = search needs
 
 returns : tie.Need-returns Inv-loop μ-loop
+unfolding setValue nextSet
 returns c =
     let called = c .before .before .before .before .before .before .before in
-    let turn = called .before .before .before .before .before .before in
-    let start = turn .before .before .before .before .before .before in
-    let leads = next-set _ (start .pre .0) (start .args .set) in
-    events-cut setLayout _ (turn .before .loop .inv .2 _ leads) (turn .loop-test .taken)
-    (called .before .image .ensures ∙ leads _ (turn .loop-test .taken)) (called .enter .ensures _) (c .if1 .taken)
+    let turn = called .before .before .before .before .before in
+    events-cut setLayout _ (turn .before .before .loop .inv .1) (turn .if1 .taken) (called .before .after .ensures) (called .enter .ensures _)
+    (c .if2 .taken)
 
 add-a : tie.Need-add-a Inv-loop μ-loop
 add-a c = search needs
@@ -73,16 +63,13 @@ loop-less : tie.Need-loop-less Inv-loop μ-loop
 loop-less c = search needs
 
 loop-again : tie.Need-loop-again Inv-loop μ-loop
+unfolding setValue nextSet
 loop-again c =
     let called = c .before .before .before .before .before .before .before in
-    let turn = called .before .before .before .before .before .before in
-    let start = turn .before .before .before .before .before .before in
-    let M : Machine ℕ = machine 8 (asked (start .args .m) (start .args .arrows .now)) in (
-      record { masks = search needs; from = search needs; event = search needs },
-      still-lent setLayout (goes (called .enter .ensures M)) (turn .before .loop .inv .1),
-      λ M leads.
-          events-next setLayout _ (turn .before .loop .inv .2 M leads) (turn .loop-test .taken)
-          (called .before .image .ensures ∙ leads _ (turn .loop-test .taken)) (called .enter .ensures M) (c .if1 .left),
+    let turn = called .before .before .before .before .before in (
+      search needs,
+      events-next setLayout _ (turn .before .before .loop .inv .1) (turn .if1 .taken) (called .before .after .ensures) (called .enter .ensures _)
+          (c .if2 .left),
     )
 
 same-length-4 : tie.Need-same-length-4 Inv-loop μ-loop
@@ -95,9 +82,7 @@ same-length-6 : tie.Need-same-length-6 Inv-loop μ-loop
 same-length-6 c = search needs
 
 returns-2 : tie.Need-returns-2 Inv-loop μ-loop
-returns-2 c =
-    let start = c .before .before .before .before .before .before in
-    events-done setLayout _ (c .before .loop .inv .2 _ (next-set _ (start .pre .0) (start .args .set))) (c .loop-test .left)
+returns-2 c = events-done setLayout _ (c .before .before .loop .inv .1) (c .if1 .left)
 
 pub by-events-spec : {M : Type 1} → statement M
 by-events-spec =
@@ -106,9 +91,7 @@ by-events-spec =
     Inv-loop
     μ-loop
     loop-holds
-    mul-image
-    shared-slice-read-image
-    image-requires
+    after-requires
     cast-enter
     enter-requires
     same-length
