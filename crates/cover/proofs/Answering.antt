@@ -1,15 +1,16 @@
 -- What closing ensures, from what its parts ensure: the four cases of the answer, each with what then stands in the slices.
-use Prim.Native.Nat.{ℕ, zero, suc}
+use Prim.Native.Nat.{ℕ, zero, suc, _*_, _^_}
 use mathlib.Core.Path.{_≡_, refl, sym, ap, _∙_}
 use mathlib.Core.Bool.{true, false}
 use mathlib.Core.List.{List, []}
 use lib.ListN.{length}
 use Rattle.laws.specs.Model.{eight, machine}
 use Rattle.laws.specs.Refusals.{firstOf, modelChecks}
-use Rattle.laws.specs.Tables.{Entry}
-use Rattle.laws.specs.Profiles.{Profile, values, setTable, profileTable}
+use Rattle.laws.specs.Tables.{Entry, Closes}
+use Rattle.laws.specs.Profiles.{Profile, values, setValue, profileValue, setTable, profileTable}
 use Rattle.laws.specs.Answers.{SetSlices, ProfileSlices, setRoom, profileRoom, over, setSlices, profileSlices}
 use Rattle.laws.specs.Answers.{closingAnswer, closingIn}
+use Rattle.laws.proofs.Theorems.{sets-close, profiles-close}
 use Rattle.laws.proofs.Answered.{Whole, closing-refused, closing-listed, closing-whole}
 use Rattle.cover.specs.Values.{asked}
 use Rattle.cover.specs.Memory.{Fills}
@@ -33,7 +34,13 @@ module _ (m : Model) (arrows : List ℕ) (S : SetSlices) (T : ProfileSlices) whe
         profiles = cc;
         set-slices = cc;
         profile-slices = cc;
-        listed = closing-listed eight (asked m arrows) (setRoom eight S) (profileRoom eight T);
+        all-sets = sets .complete;
+        sets-are-all = sets .holds;
+        all-profiles = profiles .complete;
+        profiles-are-all = profiles .holds;
+        listed =
+            closing-listed eight (asked m arrows) (setRoom eight S) (profileRoom eight T) (sets .complete) (sets .holds)
+            (profiles .complete) (profiles .holds);
         all-sets-stored =
             λ z. rw (of-sets, sets-are, setLayout .back es S) (rw (ap (λ c. c .sets) is) at (whole (sym number-is ∙ z) .sets-hold));
         all-profiles-stored =
@@ -42,6 +49,12 @@ module _ (m : Model) (arrows : List ℕ) (S : SetSlices) (T : ProfileSlices) whe
             (rw (ap (λ c. c .profiles) is) at (whole (sym number-is ∙ z) .profiles-hold));
       }
     where
+      sets : Closes (setValue 8 (machine 8 (asked m arrows))) (m .k) (2 ^ 8)
+      sets = sets-close 8 (machine 8 (asked m arrows)) (m .k)
+
+      profiles : Closes (profileValue 8 (machine 8 (asked m arrows))) (m .k) (2 ^ (8 * 8) * 2 ^ (8 * 8))
+      profiles = profiles-close 8 (machine 8 (asked m arrows)) (m .k)
+
       whole : number ≡ 0 → Whole eight (asked m arrows) (setRoom eight S) (profileRoom eight T) (due m arrows S T)
       whole z = closing-whole eight (asked m arrows) (setRoom eight S) (profileRoom eight T) (ap (λ c. c .number) is ∙ z)
 

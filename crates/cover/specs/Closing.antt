@@ -34,9 +34,13 @@ module _ (m : Model) (arrows : List ℕ) where
     -- every lent slice: what was entered, then what stood there before
     pub set-slices : S′ ≡ setSlices (due S T .sets) S
     pub profile-slices : T′ ≡ profileSlices (due S T .profiles) T
-    -- that answer is the one that document 01 lists, when all-sets and all-profiles are all there are
-    pub listed : (all-sets : List (Entry ℕ)) → AllSets all-sets → (all-profiles : List (Entry paper.Profile)) → AllProfiles all-profiles
-        → due S T ≡ closingOf eight (asked m arrows) (setRoom eight S) (profileRoom eight T) all-sets all-profiles
+    -- said by the complete lists: there are all sets and all profiles, and the answer is what document 01 lists for them, 4 exactly if there
+    -- are more sets than room, and otherwise 5 exactly if there are more profiles than room
+    pub all-sets : List (Entry ℕ)
+    pub sets-are-all : AllSets all-sets
+    pub all-profiles : List (Entry paper.Profile)
+    pub profiles-are-all : AllProfiles all-profiles
+    pub listed : due S T ≡ closingOf eight (asked m arrows) (setRoom eight S) (profileRoom eight T) all-sets all-profiles
     -- DEMAND 2: after 0 the stored sets are all that words have, and the stored profiles all that non-empty words have
     pub all-sets-stored : answer .number ≡ 0 → AllSets (setsIn S′ (answer .sets))
     pub all-profiles-stored : answer .number ≡ 0 → AllProfiles (profilesIn T′ (answer .profiles))

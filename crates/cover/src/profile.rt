@@ -26,11 +26,7 @@ fn leads_via(s: Profile, t: Profile, p: usize, r: usize, q: usize) -> bool
     requires { ⌜ (p < 8) × (r < 8) × (q < 8) ⌝ }
     ensures { λ b. ⌜ b ≡ (leadsTo 8 (profile s) p r && leadsTo 8 (profile t) r q) ⌝ }
 {
-    if has(s.arrows, Model::STATES * p + r) {
-        has(t.arrows, Model::STATES * r + q)
-    } else {
-        false
-    }
+    has(s.arrows, Model::STATES * p + r) & has(t.arrows, Model::STATES * r + q)
 }
 
 // The same, and at least one of the two is marked.
@@ -39,11 +35,8 @@ fn marks_via(s: Profile, t: Profile, p: usize, r: usize, q: usize) -> bool
     ensures { λ b. ⌜ b ≡ (leadsTo 8 (profile s) p r && leadsTo 8 (profile t) r q
         && (marked 8 (profile s) p r || marked 8 (profile t) r q)) ⌝ }
 {
-    if leads_via(s, t, p, r, q) {
-        has(s.marks, Model::STATES * p + r) || has(t.marks, Model::STATES * r + q)
-    } else {
-        false
-    }
+    let marked = has(s.marks, Model::STATES * p + r) | has(t.marks, Model::STATES * r + q);
+    leads_via(s, t, p, r, q) & marked
 }
 
 // For some r.
@@ -99,11 +92,7 @@ fn arrives_home(arrows: u64, home: u8, i: usize) -> bool
     requires { ⌜ i < 64 ⌝ }
     ensures { λ b. ⌜ b ≡ (bit arrows i && bit home (i % 8)) ⌝ }
 {
-    if has(arrows, i) {
-        has(home as u64, i % Model::STATES)
-    } else {
-        false
-    }
+    has(arrows, i) & has(home as u64, i % Model::STATES)
 }
 
 // The profile of one event, from its arrows.
@@ -132,6 +121,14 @@ pub fn next(x: Before, event: Profile) -> Profile
     }
 }
 
+// p is in the set and leads to q.
+fn steps(set: u8, arrows: u64, p: usize, q: usize) -> bool
+    requires { ⌜ (p < 8) × (q < 8) ⌝ }
+    ensures { λ b. ⌜ b ≡ (bit set p && cell 8 arrows p q) ⌝ }
+{
+    has(set as u64, p) & has(arrows, Model::STATES * p + q)
+}
+
 // Some state of the set leads to q.
 fn reached(set: u8, arrows: u64, q: usize) -> bool
     requires { ⌜ q < 8 ⌝ }
@@ -145,18 +142,6 @@ fn reached(set: u8, arrows: u64, q: usize) -> bool
         p += 1;
     }
     false
-}
-
-// p is in the set and leads to q.
-fn steps(set: u8, arrows: u64, p: usize, q: usize) -> bool
-    requires { ⌜ (p < 8) × (q < 8) ⌝ }
-    ensures { λ b. ⌜ b ≡ (bit set p && cell 8 arrows p q) ⌝ }
-{
-    if has(set as u64, p) {
-        has(arrows, Model::STATES * p + q)
-    } else {
-        false
-    }
 }
 
 // The set to which arrows lead a set.

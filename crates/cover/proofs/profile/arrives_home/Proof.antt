@@ -1,4 +1,6 @@
--- The two branches are an "and" of what `has` answers.
+-- Both bits are read as they stand.
+use mathlib.Core.Path.{ap₂}
+use mathlib.Core.Bool.{_&&_}
 use borrow.Author.Needs.{needs}
 use Rattle.cover.proofs.profile.arrives_home.Statement.{statement}
 use Rattle.cover.proofs.profile.arrives_home.Tie as tie
@@ -10,10 +12,7 @@ has-requires-2 : tie.Need-has-requires-2
 has-requires-2 c κs = search needs
 
 returns : tie.Need-returns
-returns c = rw (← c .before .before .has .ensures, c .before .if1 .taken) (c .has2 .ensures)
-
-returns-2 : tie.Need-returns-2
-returns-2 c = rw (← c .before .has .ensures, c .if1 .left)
+returns c = ap₂ _&&_ (c .before .has .ensures) (c .has2 .ensures)
 
 pub arrives-home-spec : {M : Type 1} → statement M
-arrives-home-spec = tie.close (tie.spec has-requires has-requires-2 returns returns-2)
+arrives-home-spec = tie.close (tie.spec has-requires has-requires-2 returns)

@@ -1,7 +1,9 @@
--- The two branches are an "and" of what `has` answers: bit 8·p+r of the one profile and bit 8·r+q of the other.
-use borrow.Author.Needs.{needs}
+-- Both bits are those of the two profiles.
+use mathlib.Core.Path.{ap₂}
+use mathlib.Core.Bool.{_&&_}
 use Rattle.laws.specs.Bits.{cell}
 use Rattle.laws.specs.Profiles.{leadsTo}
+use borrow.Author.Needs.{needs}
 use Rattle.cover.proofs.profile.leads_via.Statement.{statement}
 use Rattle.cover.proofs.profile.leads_via.Tie as tie
 
@@ -25,13 +27,8 @@ has-requires-2 c κs = search needs
 
 returns : tie.Need-returns
 unfolding leadsTo cell
-returns c = rw (← c .before .before .has .ensures, c .before .if1 .taken) (c .has2 .ensures)
-
-returns-2 : tie.Need-returns-2
-unfolding leadsTo cell
-returns-2 c = rw (← c .before .has .ensures, c .if1 .left)
+returns c = ap₂ _&&_ (c .before .has .ensures) (c .has2 .ensures)
 
 pub leads-via-spec : {M : Type 1} → statement M
 leads-via-spec =
-    tie.close
-    (tie.spec mul-has add-has has-requires mul-has-2 add-has-2 has-requires-2 returns returns-2)
+    tie.close (tie.spec mul-has add-has has-requires mul-has-2 add-has-2 has-requires-2 returns)

@@ -1,6 +1,8 @@
--- The two branches are an "and" of what `has` answers: bit p of the set, and bit 8·p+q of the arrows.
-use borrow.Author.Needs.{needs}
+-- Both bits are read as they stand.
+use mathlib.Core.Path.{ap₂}
+use mathlib.Core.Bool.{_&&_}
 use Rattle.laws.specs.Bits.{cell}
+use borrow.Author.Needs.{needs}
 use Rattle.cover.proofs.profile.steps.Statement.{statement}
 use Rattle.cover.proofs.profile.steps.Tie as tie
 
@@ -18,11 +20,7 @@ has-requires-2 c κs = search needs
 
 returns : tie.Need-returns
 unfolding cell
-returns c = rw (← c .before .before .has .ensures, c .before .if1 .taken) (c .has2 .ensures)
-
-returns-2 : tie.Need-returns-2
-unfolding cell
-returns-2 c = rw (← c .before .has .ensures, c .if1 .left)
+returns c = ap₂ _&&_ (c .before .has .ensures) (c .has2 .ensures)
 
 pub steps-spec : {M : Type 1} → statement M
-steps-spec = tie.close (tie.spec has-requires mul-has add-has has-requires-2 returns returns-2)
+steps-spec = tie.close (tie.spec has-requires mul-has add-has has-requires-2 returns)
