@@ -1,4 +1,5 @@
-//! Times the library's closing, by running its program, against the straight look-up here, in one go.
+//! Times the library's closing, by running its program, against the straight look-up here, in one go. The library's time has in it what its
+//! program does besides, filling and summing the memory; that of the straight look-up is closing alone.
 
 use crate::model::{Model, MOST_EVENTS};
 use crate::straight::Lent;
@@ -36,8 +37,11 @@ fn compare(model: &Model, program: &[&str]) -> Result<(), String> {
     let once = theirs(model, program, 1)?;
     let often = theirs(model, program, 1 + TIMES)?;
     let library = often.saturating_sub(once) / TIMES as u32;
-    let mut lent = Lent::cleared();
-    let (sets, profiles, cut) = lent.close(model);
+    let (sets, profiles, cut) = Lent::cleared().close(model);
+    let answer = format!("{} {} {} ", if cut { 5 } else { 0 }, sets, profiles);
+    if !repeated(model, 1).1.starts_with(&answer) {
+        return Err(format!("the straight look-up ends with {:?}", answer));
+    }
     println!(
         "n {} k {}: {} sets, {} profiles{}: library {:.2} ms, straight look-up in Rust {:.2} ms, ratio {:.2}",
         model.n,

@@ -16,6 +16,12 @@ loop-holds c = search needs
 room-tried-requires : tie.Need-room-tried-requires Inv-loop μ-loop
 room-tried-requires c κs = search needs
 
+but-one-requires : tie.Need-but-one-requires Inv-loop μ-loop
+but-one-requires c κs = search needs
+
+add-run : tie.Need-add-run Inv-loop μ-loop
+add-run c = search needs
+
 run-requires : tie.Need-run-requires Inv-loop μ-loop
 run-requires c κs = search needs
 
@@ -51,6 +57,8 @@ show-short-spec =
     μ-loop
     loop-holds
     room-tried-requires
+    but-one-requires
+    add-run
     run-requires
     wide-requires
     print-requires

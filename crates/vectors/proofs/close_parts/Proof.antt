@@ -1,30 +1,51 @@
--- A part is no longer than its slice, since `part` says so. Assumes nothing.
+-- A part is no longer than its slice, since `least` says so. Assumes nothing.
 use native.Mathlib.Omega.{arith}
 use lib.ListN.{length-take}
 use borrow.Author.Needs.{needs}
-use Rattle.vectors.proofs.run_in.Statement.{statement}
-use Rattle.vectors.proofs.run_in.Tie as tie
+use Rattle.vectors.proofs.close_parts.Statement.{statement}
+use Rattle.vectors.proofs.close_parts.Tie as tie
 
-part-requires : tie.Need-part-requires
-part-requires c κs = search needs
+array-read-least : tie.Need-array-read-least
+array-read-least c = search needs
 
-part-requires-2 : tie.Need-part-requires-2
-part-requires-2 c κs = search needs
+least-requires : tie.Need-least-requires
+least-requires c κs = search needs
 
-part-requires-3 : tie.Need-part-requires-3
-part-requires-3 c κs = search needs
+array-read-least-2 : tie.Need-array-read-least-2
+array-read-least-2 c = search needs
 
-part-requires-4 : tie.Need-part-requires-4
-part-requires-4 c κs = search needs
+least-requires-2 : tie.Need-least-requires-2
+least-requires-2 c κs = search needs
 
-part-requires-5 : tie.Need-part-requires-5
-part-requires-5 c κs = search needs
+array-read-least-3 : tie.Need-array-read-least-3
+array-read-least-3 c = search needs
 
-part-requires-6 : tie.Need-part-requires-6
-part-requires-6 c κs = search needs
+least-requires-3 : tie.Need-least-requires-3
+least-requires-3 c κs = search needs
 
-part-requires-7 : tie.Need-part-requires-7
-part-requires-7 c κs = search needs
+array-read-least-4 : tie.Need-array-read-least-4
+array-read-least-4 c = search needs
+
+least-requires-4 : tie.Need-least-requires-4
+least-requires-4 c κs = search needs
+
+array-read-least-5 : tie.Need-array-read-least-5
+array-read-least-5 c = search needs
+
+least-requires-5 : tie.Need-least-requires-5
+least-requires-5 c κs = search needs
+
+array-read-least-6 : tie.Need-array-read-least-6
+array-read-least-6 c = search needs
+
+least-requires-6 : tie.Need-least-requires-6
+least-requires-6 c κs = search needs
+
+array-read-least-7 : tie.Need-array-read-least-7
+array-read-least-7 c = search needs
+
+least-requires-7 : tie.Need-least-requires-7
+least-requires-7 c κs = search needs
 
 slice-relend-prefix-close : tie.Need-slice-relend-prefix-close
 slice-relend-prefix-close c = search needs
@@ -71,39 +92,6 @@ slice-aggregate-close-7 c = simp length-take (omega arith)
 close-requires : tie.Need-close-requires
 close-requires c κs = search needs
 
-wide-requires : tie.Need-wide-requires
-wide-requires c κs = search needs
-
-mix-requires : tie.Need-mix-requires
-mix-requires c κs = search needs
-
-mix-requires-2 : tie.Need-mix-requires-2
-mix-requires-2 c κs = search needs
-
-mix-requires-3 : tie.Need-mix-requires-3
-mix-requires-3 c κs = search needs
-
-mix-bytes-requires : tie.Need-mix-bytes-requires
-mix-bytes-requires c κs = search needs
-
-mix-numbers-requires : tie.Need-mix-numbers-requires
-mix-numbers-requires c κs = search needs
-
-mix-bytes-requires-2 : tie.Need-mix-bytes-requires-2
-mix-bytes-requires-2 c κs = search needs
-
-mix-words-requires : tie.Need-mix-words-requires
-mix-words-requires c κs = search needs
-
-mix-words-requires-2 : tie.Need-mix-words-requires-2
-mix-words-requires-2 c κs = search needs
-
-mix-numbers-requires-2 : tie.Need-mix-numbers-requires-2
-mix-numbers-requires-2 c κs = search needs
-
-mix-bytes-requires-3 : tie.Need-mix-bytes-requires-3
-mix-bytes-requires-3 c κs = search needs
-
 same-length : tie.Need-same-length
 same-length c = search needs
 
@@ -128,17 +116,24 @@ same-length-7 c = search needs
 returns : tie.Need-returns
 returns c = search needs
 
-pub run-in-spec : {M : Type 1} → statement M
-run-in-spec =
+pub close-parts-spec : {M : Type 1} → statement M
+close-parts-spec =
     tie.close
     (tie.spec
-    part-requires
-    part-requires-2
-    part-requires-3
-    part-requires-4
-    part-requires-5
-    part-requires-6
-    part-requires-7
+    array-read-least
+    least-requires
+    array-read-least-2
+    least-requires-2
+    array-read-least-3
+    least-requires-3
+    array-read-least-4
+    least-requires-4
+    array-read-least-5
+    least-requires-5
+    array-read-least-6
+    least-requires-6
+    array-read-least-7
+    least-requires-7
     slice-relend-prefix-close
     slice-aggregate-close
     slice-relend-prefix-close-2
@@ -154,17 +149,6 @@ run-in-spec =
     slice-relend-prefix-close-7
     slice-aggregate-close-7
     close-requires
-    wide-requires
-    mix-requires
-    mix-requires-2
-    mix-requires-3
-    mix-bytes-requires
-    mix-numbers-requires
-    mix-bytes-requires-2
-    mix-words-requires
-    mix-words-requires-2
-    mix-numbers-requires-2
-    mix-bytes-requires-3
     same-length
     same-length-2
     same-length-3
