@@ -47,3 +47,4 @@ pub mod Counts
 -- the answers, by the theorems
 pub mod Unrefused
 pub mod Answered
+pub mod Read

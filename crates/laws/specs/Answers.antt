@@ -88,7 +88,8 @@ pub record ClosingAnswer : Type 0 where
   pub sets : List (Entry ℕ)
   pub profiles : List (Entry Profile)
 
--- after 1, 2 and 3 nothing; after 4 as many sets as there is room; after 5 all sets and as many profiles as there is room
+-- a refused model enters nothing; with too little room for sets the sets fill it; with too little for profiles all sets are there, and the
+-- profiles fill theirs
 unfoldable pub closingAnswer : Kind → Model → ℕ → ℕ → ClosingAnswer
 closingAnswer K m set-room profile-room =
     let M : Machine ℕ = machine (K .states) m in

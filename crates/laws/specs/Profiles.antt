@@ -47,7 +47,8 @@ module _ (W : ℕ) where
   unfoldable pub marked : Profile → ℕ → ℕ → Bool
   marked t p q = cell W (t .marks) p q
 
-  -- s then t: p leads to q if some r has p to r in s and r to q in t; marked if for some such r at least one of the two is marked
+  -- one profile joined with the next: from p to q through any r that s leads to and t leads on from; marked where s or t marks its part of
+  -- the way through one such r
   unfoldable pub join : Profile → Profile → Profile
   join s t =
       record {
@@ -146,7 +147,7 @@ module _ (W : ℕ) (M : Machine ℕ) where
   unfoldable pub profileOf : Word → Option Profile
   profileOf w = profileFrom none w
 
-  -- WHAT A PROFILE MEANS: for every p and q, whether some path reading the word leads from p to q, and whether such a path is marked
+  -- WHAT A PROFILE MEANS: its bits are set exactly where a path reads the word, and where a marked one does
   pub record ProfileMeans (w : Word) (t : Profile) : Type 0 where
     pub path : (p q : ℕ) → p < W → q < W → Path M p w q → leadsTo W t p q ≡ true
     pub only-path : (p q : ℕ) → p < W → q < W → leadsTo W t p q ≡ true → Path M p w q
