@@ -164,6 +164,12 @@ pub record ByEntries {Value Slices : Type 0} (Val : WordValue Value) (write : Li
   pub rest : byEntries Val k room (room - i) i (going es) ≡ whole
   pub at-most : i ≤ n
 
+-- HOW FAR IT CAME since it began: whatever table was to be made from there is still to be made from where it stands
+pub record Since {Value Slices : Type 0} (Val : WordValue Value) (write : List (Entry Value) → Slices → Slices) (k room : ℕ)
+    (begun now : Slices) (first n i : ℕ) : Type 0 where
+  pub on : (old : Slices) (whole : Table Value) → ByEntries Val write k room whole old begun first 0
+      → ByEntries Val write k room whole old now n i
+
 module _ {Value Slices : Type 0} {write : List (Entry Value) → Slices → Slices} {read : Slices → ℕ → List (Entry Value)}
     {Lent : Slices → ℕ → ℕ → Type 0} (L : Layout write read Lent) (Val : WordValue Value) {room : ℕ} where
   -- the loop over events begins
@@ -203,48 +209,64 @@ module _ {Value Slices : Type 0} {write : List (Entry Value) → Slices → Slic
           record { es = with-a .entries; stands = goes fills-a; rest = rw (add-one, ← uncut fills-a c) rest-a; at-most = omega arith }
 
   -- the loop over entries begins where the first values were entered
-  module _ (k : ℕ) {t : Table Value} {old now : Slices} {answer : Filled} (f : Fills write room t old now answer) where
+  module _ (k : ℕ) {t : Table Value} {old begun : Slices} {first : Filled} (b : Fills write room t old begun first) where
     -- unless these cut the table, which is then the whole
-    pub begin-cut : answer .cut ≡ true → Fills write room (byEntries Val k room room 0 t) old now answer
-    begin-cut = stopped f (entries-still Val k room room 0 t)
+    pub entries-none : first .cut ≡ true → Fills write room (byEntries Val k room room 0 t) old begun first
+    entries-none = stopped b (entries-still Val k room room 0 t)
 
-    pub entries-begin : answer .cut ≡ false → ByEntries Val write k room (byEntries Val k room room 0 t) old now (answer .count) 0
-    entries-begin c = record { es = t .entries; stands = goes f; rest = rw (sub-zero, ← uncut f c); at-most = omega arith }
+    entries-begin : first .cut ≡ false → ByEntries Val write k room (byEntries Val k room room 0 t) old begun (first .count) 0
+    entries-begin c = record { es = t .entries; stands = goes b; rest = rw (sub-zero, ← uncut b c); at-most = omega arith }
 
-  module _ {k : ℕ} {whole : Table Value} {old now : Slices} {n i : ℕ} (s : ByEntries Val write k room whole old now n i) where
-    -- it ends
-    pub entries-done : n ≤ i → Fills write room whole old now (filled n)
-    entries-done h =
-        let none-left = past-end (s .es) i (omega (arith, s .stands .count)) in
-        rw (← s .rest, entries-end Val k room (room - i) i (going (s .es)) none-left) (s .stands)
+  -- a turn, in which what the events make of v, the value of entry number i, is entered
+  module _ {k : ℕ} {begun now : Slices} {start n i : ℕ} (w : Since Val write k room begun now start n i) (h : i < n) {new : Slices}
+      {v : Value} {answer : Filled} (e : Entry Value) (at : getElem? (read now n) i ≡ some e) (v-is : v ≡ e .value)
+      (f : Fills write room (byEvents Val room i (some v) k 0 (going (read now n))) now new answer) where
+    module _ {whole : Table Value} {old : Slices} (b : ByEntries Val write k room whole old begun start 0) where
+      abbrev at-i : ByEntries Val write k room whole old now n i
+      at-i = w .on old whole b
 
-    -- a turn, in which what the events make of v, the value of entry number i, is entered
-    module _ (h : i < n) {new : Slices} {v : Value} {answer : Filled} (e : Entry Value) (at : getElem? (read now n) i ≡ some e)
-        (v-is : v ≡ e .value) (f : Fills write room (byEvents Val room i (some v) k 0 (going (read now n))) now new answer) where
       abbrev with-i : Table Value
-      with-i = byEvents Val room i (some (e .value)) k 0 (going (s .es))
+      with-i = byEvents Val room i (some (e .value)) k 0 (going (at-i .es))
 
-      longer-i : length (s .es) ≤ length (with-i .entries)
-      longer-i = events-longer Val room i (some (e .value)) k 0 (going (s .es))
+      longer-i : length (at-i .es) ≤ length (with-i .entries)
+      longer-i = events-longer Val room i (some (e .value)) k 0 (going (at-i .es))
 
       fills-i : Fills write room with-i old new answer
-      fills-i = onward L (s .stands) longer-i (rw (v-is, entries-read L (s .stands)) at f)
+      fills-i = onward L (at-i .stands) longer-i (rw (v-is, entries-read L (at-i .stands)) at f)
 
       rest-i : byEntries Val k room (room - suc i) (suc i) with-i ≡ whole
       rest-i =
-          let one-more : room - i ≡ suc (room - suc i) = omega (arith, s .stands .within) in
-          sym (entries-on Val k room (room - suc i) i (going (s .es)) e (rw (entries-read L (s .stands)) at at)) ∙ rw one-more at (s .rest)
+          let one-more : room - i ≡ suc (room - suc i) = omega (arith, at-i .stands .within) in
+          sym (entries-on Val k room (room - suc i) i (going (at-i .es)) e (rw (entries-read L (at-i .stands)) at at))
+          ∙ rw one-more at (at-i .rest)
 
-      -- it cuts the table, which is then the whole
-      pub entries-cut : answer .cut ≡ true → Fills write room whole old new answer
-      entries-cut = stopped fills-i (λ c. sym rest-i ∙ entries-still Val k room (room - suc i) (suc i) with-i c)
-
-      -- or the loop goes on
-      pub entries-next : answer .cut ≡ false → ByEntries Val write k room whole old new (answer .count) (i + 1)
-      entries-next c =
+      next-i : answer .cut ≡ false → ByEntries Val write k room whole old new (answer .count) (i + 1)
+      next-i c =
           record {
             es = with-i .entries;
             stands = goes fills-i;
             rest = rw (add-one, ← uncut fills-i c) rest-i;
-            at-most = omega (arith, longer-i, fills-i .count, s .stands .count);
+            at-most = omega (arith, longer-i, fills-i .count, at-i .stands .count);
           }
+
+    -- the loop goes on
+    pub entries-next : answer .cut ≡ false → Since Val write k room begun new start (answer .count) (i + 1)
+    entries-next c = record { on = λ old whole b. next-i b c }
+
+  module _ {k : ℕ} {begun now : Slices} {n i : ℕ} {first : Filled} (w : Since Val write k room begun now (first .count) n i)
+      {t : Table Value} {old : Slices} (b : Fills write room t old begun first) (c : first .cut ≡ false) where
+    -- it ends
+    pub entries-done : n ≤ i → Fills write room (byEntries Val k room room 0 t) old now (filled n)
+    entries-done h =
+        let s = w .on _ _ (entries-begin k b c) in
+        let none-left = past-end (s .es) i (omega (arith, s .stands .count)) in
+        rw (← s .rest, entries-end Val k room (room - i) i (going (s .es)) none-left) (s .stands)
+
+    -- or a turn cuts the table, which is then the whole
+    pub entries-cut : (h : i < n) {new : Slices} {v : Value} {answer : Filled} (e : Entry Value) → getElem? (read now n) i ≡ some e
+        → v ≡ e .value → Fills write room (byEvents Val room i (some v) k 0 (going (read now n))) now new answer → answer .cut ≡ true
+        → Fills write room (byEntries Val k room room 0 t) old new answer
+    entries-cut h e at v-is f =
+        let s = entries-begin k b c in
+        stopped (fills-i w h e at v-is f s)
+        (λ d. sym (rest-i w h e at v-is f s) ∙ entries-still Val k room (room - suc i) (suc i) (with-i w h e at v-is f s) d)

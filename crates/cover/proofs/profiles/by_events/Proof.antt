@@ -1,6 +1,7 @@
 -- What each event makes of the profile is entered, one after the other. The loop keeps that what the events from a on make of the entries
 -- so far is the whole table, and that the slices keep their lengths.
 use Prim.Native.Nat.{_-_}
+use mathlib.Core.Path.{_∙_}
 use borrow.Author.Needs.{needs}
 use Rattle.laws.specs.Model.{machine}
 use Rattle.laws.specs.Tables.{WordValue, byEvents}
@@ -74,8 +75,14 @@ loop-again c =
     let called = c .before .before .before .before .before .before .before .before .before in
     let made = called .before .before .before .before .before in
     let turn = made .before .before in
-    let start = turn .before .before .before .before .before .before .before .before in (
-      search needs,
+    let start = turn .before .before .before .before .before .before .before .before in
+    let lengths = turn .before .before .loop .inv .0 in (
+      record {
+        arrows = c .before .before .before .before .before .before .before .before .arrows .given ∙ lengths .arrows;
+        marks = c .before .before .before .before .before .before .marks .given ∙ lengths .marks;
+        from = c .before .before .before .before .from .given ∙ lengths .from;
+        event = c .before .before .event .given ∙ lengths .event;
+      },
       events-next profileLayout _ (turn .before .before .loop .inv .1) (turn .if1 .taken)
           (next-value _ _ (start .args .x) (made .before .profile-of .ensures) (made .next .ensures)) (called .enter .ensures _) (c .if2 .left),
     )

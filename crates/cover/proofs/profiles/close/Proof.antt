@@ -1,15 +1,15 @@
 -- The table begins with what the events make of the empty word, and then each entry goes by all events. The loop keeps that the slices are
 -- lent, and that whatever table was to be made from where it began is still to be made from where it stands.
-use Prim.Native.Nat.{_-_}
-use mathlib.Core.Path.{refl}
+use Prim.Native.Nat.{ℕ, _-_}
+use mathlib.Core.Path.{refl, _∙_}
 use borrow.Author.Needs.{needs}
-use Rattle.laws.specs.Model.{machine}
-use Rattle.laws.specs.Tables.{WordValue, Table}
+use Rattle.laws.specs.Model.{Machine, machine}
+use Rattle.laws.specs.Tables.{WordValue}
 use Rattle.laws.specs.Profiles.{Profile, profileValue}
 use Rattle.laws.specs.Answers.{ProfileSlices, profileSlices}
 use Rattle.cover.specs.Values.{asked}
 use Rattle.cover.specs.Memory.{profiles, ProfilesLent}
-use Rattle.cover.proofs.Filling.{ByEntries, begin-cut, entries-begin, entries-cut, entries-next, entries-done, still-lent, goes}
+use Rattle.cover.proofs.Filling.{Since, goes, still-lent, entries-none, entries-cut, entries-next, entries-done}
 use Rattle.cover.proofs.ProfileTable.{read-at, profileLayout, SameLengths, room-lent, table-fills}
 use Rattle.cover.proofs.profiles.close.Statement.{statement}
 use Rattle.cover.proofs.profiles.close.Tie as tie
@@ -21,8 +21,7 @@ Inv-loop m lent arrows₀ marks₀ from₀ event₀ room n₀ i₀ arrows marks 
     let now : ProfileSlices = profiles arrows marks from event in
     SameLengths begun now
     × ProfilesLent now n room
-    × ((old : ProfileSlices) (whole : Table Profile) → ByEntries Val profileSlices (m .k) room whole old begun n₀ 0
-    → ByEntries Val profileSlices (m .k) room whole old now n i)
+    × Since Val profileSlices (m .k) room begun now n₀ n i
 
 abbrev μ-loop : tie.MeasureT-loop
 μ-loop m lent arrows₀ marks₀ from₀ event₀ room n₀ i₀ arrows marks from event n i = room - i
@@ -48,8 +47,11 @@ same-length-4 c = search needs
 returns : tie.Need-returns Inv-loop μ-loop
 returns c =
     let first = c .before .before .before .before .before .before .before .before .before in
-    table-fills _ _ _ (first .before .before .before .before .before .room-of .ensures)
-    (begin-cut profileLayout _ _ (first .by-events .ensures) (c .if1 .taken))
+    let start = first .before .before .before .before .before .before .before .before .before .before .before .before .before .before .before .args in
+    let M : Machine ℕ = machine 8 (asked (start .m) (start .lent .now)) in
+    let lent : ProfileSlices = profiles (start .arrows .now) (start .marks .now) (start .from .now) (start .event .now) in
+    table-fills M (start .m .k) lent (first .before .before .before .before .before .room-of .ensures)
+    (entries-none profileLayout (profileValue 8 M) (start .m .k) (first .by-events .ensures) (c .if1 .taken))
 
 loop-holds : tie.Need-loop-holds Inv-loop μ-loop
 loop-holds c =
@@ -57,7 +59,7 @@ loop-holds c =
     let room = first .before .before .before .before .before in (
       search needs,
       still-lent profileLayout (goes (first .by-events .ensures)) (room-lent _ (room .room-of .ensures)),
-      λ old whole s. s,
+      record { on = λ old whole b. b },
     )
 
 mul-t32 : tie.Need-mul-t32 Inv-loop μ-loop
@@ -76,28 +78,45 @@ cast-by-events : tie.Need-cast-by-events Inv-loop μ-loop
 cast-by-events c = search needs
 
 by-events-requires-2 : tie.Need-by-events-requires-2 Inv-loop μ-loop
-by-events-requires-2 c κs = search needs
+by-events-requires-2 c κs =
+    let at = c .before .before .before .before .before .before .before in
+    let first = at .before .before .before .before .before .before .before .before .before .before in
+    (first .before .before .before .before .before .before .before .before .before .before .before .before .before .before .before .pre, at .loop .inv .1)
 
 same-length-5 : tie.Need-same-length-5 Inv-loop μ-loop
-same-length-5 c = search needs
+same-length-5 c =
+    let call = c .before .before .before .before .before .before .before .before in
+    let at = call .before .before .before .before .before .before .before .before .before in
+    call .arrows2 .given ∙ at .loop .inv .0 .arrows ∙ at .before .before .before .before .before .before .before .before .before .arrows .given
 
 same-length-6 : tie.Need-same-length-6 Inv-loop μ-loop
-same-length-6 c = search needs
+same-length-6 c =
+    let call = c .before .before .before .before .before .before in
+    let at = call .before .before .before .before .before .before .before .before .before .before .before in
+    call .marks2 .given ∙ at .loop .inv .0 .marks ∙ at .before .before .before .before .before .before .before .marks .given
 
 same-length-7 : tie.Need-same-length-7 Inv-loop μ-loop
-same-length-7 c = search needs
+same-length-7 c =
+    let call = c .before .before .before .before in
+    let at = call .before .before .before .before .before .before .before .before .before .before .before .before .before in
+    call .from2 .given ∙ at .loop .inv .0 .from ∙ at .before .before .before .before .before .from .given
 
 same-length-8 : tie.Need-same-length-8 Inv-loop μ-loop
-same-length-8 c = search needs
+same-length-8 c =
+    let call = c .before .before in
+    let at = call .before .before .before .before .before .before .before .before .before .before .before .before .before .before .before in
+    call .event2 .given ∙ at .loop .inv .0 .event ∙ at .before .before .before .event .given
 
 returns-2 : tie.Need-returns-2 Inv-loop μ-loop
 returns-2 c =
     let again = c .before .before .before .before .before .before .before .before .before in
     let turn = again .before .before .before .before .before .before .before in
     let first = turn .before .before .before .before .before .before .before .before .before .before .before in
-    table-fills _ _ _ (first .before .before .before .before .before .room-of .ensures)
-    (entries-cut profileLayout _
-    (turn .before .loop .inv .2 _ _ (entries-begin profileLayout _ _ (first .by-events .ensures) (turn .before .before .if1 .left)))
+    let start = first .before .before .before .before .before .before .before .before .before .before .before .before .before .before .before .args in
+    let M : Machine ℕ = machine 8 (asked (start .m) (start .lent .now)) in
+    let lent : ProfileSlices = profiles (start .arrows .now) (start .marks .now) (start .from .now) (start .event .now) in
+    table-fills M (start .m .k) lent (first .before .before .before .before .before .room-of .ensures)
+    (entries-cut profileLayout (profileValue 8 M) (turn .before .loop .inv .2) (first .by-events .ensures) (turn .before .before .if1 .left)
     (turn .loop-test .taken) _ (read-at _ _ _ (turn .loop-test .taken)) refl (again .by-events2 .ensures) (c .if2 .taken))
 
 add-i : tie.Need-add-i Inv-loop μ-loop
@@ -109,12 +128,17 @@ loop-less c = search needs
 loop-again : tie.Need-loop-again Inv-loop μ-loop
 loop-again c =
     let again = c .before .before .before .before .before .before .before .before .before in
-    let turn = again .before .before .before .before .before .before .before in (
-      search needs,
-      search needs,
-      λ old whole s.
-          entries-next profileLayout _ (turn .before .loop .inv .2 old whole s) (turn .loop-test .taken) _
-          (read-at _ _ _ (turn .loop-test .taken)) refl (again .by-events2 .ensures) (c .if2 .left),
+    let turn = again .before .before .before .before .before .before .before in
+    let lengths = turn .before .loop .inv .0 in (
+      record {
+        arrows = c .before .before .before .before .before .before .before .before .arrows2 .given ∙ lengths .arrows;
+        marks = c .before .before .before .before .before .before .marks2 .given ∙ lengths .marks;
+        from = c .before .before .before .before .from2 .given ∙ lengths .from;
+        event = c .before .before .event2 .given ∙ lengths .event;
+      },
+      still-lent profileLayout (goes (again .by-events2 .ensures)) (turn .before .loop .inv .1),
+      entries-next profileLayout _ (turn .before .loop .inv .2) (turn .loop-test .taken) _ (read-at _ _ _ (turn .loop-test .taken)) refl
+          (again .by-events2 .ensures) (c .if2 .left),
     )
 
 same-length-9 : tie.Need-same-length-9 Inv-loop μ-loop
@@ -132,9 +156,11 @@ same-length-12 c = search needs
 returns-3 : tie.Need-returns-3 Inv-loop μ-loop
 returns-3 c =
     let first = c .before .before .before .before .before .before .before .before .before .before .before in
-    table-fills _ _ _ (first .before .before .before .before .before .room-of .ensures)
-    (entries-done profileLayout _
-    (c .before .loop .inv .2 _ _ (entries-begin profileLayout _ _ (first .by-events .ensures) (c .before .before .if1 .left)))
+    let start = first .before .before .before .before .before .before .before .before .before .before .before .before .before .before .before .args in
+    let M : Machine ℕ = machine 8 (asked (start .m) (start .lent .now)) in
+    let lent : ProfileSlices = profiles (start .arrows .now) (start .marks .now) (start .from .now) (start .event .now) in
+    table-fills M (start .m .k) lent (first .before .before .before .before .before .room-of .ensures)
+    (entries-done profileLayout (profileValue 8 M) (c .before .loop .inv .2) (first .by-events .ensures) (c .before .before .if1 .left)
     (c .loop-test .left))
 
 pub close-spec : {M : Type 1} → statement M

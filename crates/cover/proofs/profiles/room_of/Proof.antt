@@ -18,7 +18,8 @@ least-requires-4 c κs = search needs
 
 returns : tie.Need-returns
 unfolding profileRoom
-returns c = cc
+returns c =
+    rw (c .least4 .ensures, c .before .least3 .ensures, c .before .before .least2 .ensures, c .before .before .before .least .ensures)
 
 pub room-of-spec : {M : Type 1} → statement M
 room-of-spec =

@@ -1,6 +1,7 @@
 -- Each turn enters what one event makes of the set. The loop keeps that what the events from a on make of the entries so far is the whole
 -- table, and that the slices keep their lengths.
 use Prim.Native.Nat.{ℕ, _-_}
+use mathlib.Core.Path.{_∙_}
 use mathlib.Core.Option.{some}
 use borrow.Author.Needs.{needs}
 use Rattle.laws.specs.Model.{machine}
@@ -66,8 +67,13 @@ loop-again : tie.Need-loop-again Inv-loop μ-loop
 unfolding setValue nextSet
 loop-again c =
     let called = c .before .before .before .before .before .before .before in
-    let turn = called .before .before .before .before .before in (
-      search needs,
+    let turn = called .before .before .before .before .before in
+    let lengths = turn .before .before .loop .inv .0 in (
+      record {
+        masks = c .before .before .before .before .before .before .masks .given ∙ lengths .masks;
+        from = c .before .before .before .before .from .given ∙ lengths .from;
+        event = c .before .before .event .given ∙ lengths .event;
+      },
       events-next setLayout _ (turn .before .before .loop .inv .1) (turn .if1 .taken) (called .before .after .ensures) (called .enter .ensures _)
           (c .if2 .left),
     )

@@ -1,15 +1,15 @@
 -- The first set is entered, and then what the events make of each entry in turn. The loop keeps that whatever table was to be made from
 -- where it began is still to be made from where it stands.
 use Prim.Native.Nat.{ℕ, _-_}
-use mathlib.Core.Path.{refl}
+use mathlib.Core.Path.{refl, _∙_}
 use borrow.Author.Needs.{needs}
-use Rattle.laws.specs.Model.{Machine, machine}
-use Rattle.laws.specs.Tables.{WordValue, Table}
+use Rattle.laws.specs.Model.{Machine, Model, machine}
+use Rattle.laws.specs.Tables.{WordValue}
 use Rattle.laws.specs.Profiles.{setValue}
 use Rattle.laws.specs.Answers.{SetSlices, setSlices}
 use Rattle.cover.specs.Values.{asked}
 use Rattle.cover.specs.Memory.{sets, SetsLent}
-use Rattle.cover.proofs.Filling.{ByEntries, goes, still-lent, begin-cut, entries-begin, entries-cut, entries-next, entries-done}
+use Rattle.cover.proofs.Filling.{Since, goes, still-lent, entries-none, entries-cut, entries-next, entries-done}
 use Rattle.cover.proofs.SetTable.{read-at, setLayout, SameLengths, room-lent, table-fills}
 use Rattle.cover.proofs.sets.close.Statement.{statement}
 use Rattle.cover.proofs.sets.close.Tie as tie
@@ -21,8 +21,7 @@ Inv-loop m arrows masks₀ from₀ event₀ room n₀ i₀ masks from event n i 
     let now : SetSlices = sets masks from event in
     SameLengths begun now
     × SetsLent now n room
-    × ((old : SetSlices) (whole : Table ℕ) → ByEntries Val setSlices (m .k) room whole old begun n₀ 0
-    → ByEntries Val setSlices (m .k) room whole old now n i)
+    × Since Val setSlices (m .k) room begun now n₀ n i
 
 abbrev μ-loop : tie.MeasureT-loop
 μ-loop m arrows masks₀ from₀ event₀ room n₀ i₀ masks from event n i = room - i
@@ -45,9 +44,12 @@ same-length-3 c = search needs
 returns : tie.Need-returns Inv-loop μ-loop
 returns c =
     let first = c .before .before .before .before .before .before .before in
-    let asked-room = first .before .before .before .before in
-    table-fills _ (asked-room .before .before .before .before .before .before .before .before .pre) _ (asked-room .room-of .ensures)
-    (begin-cut setLayout _ _ (first .enter .ensures _) (c .if1 .taken))
+    let room = first .before .before .before .before in
+    let start = room .before .before .before .before .before .before .before .before in
+    let m : Model = asked (start .args .m) (start .args .arrows .now) in
+    let lent : SetSlices = sets (start .args .masks .now) (start .args .from .now) (start .args .event .now) in
+    table-fills m (start .pre) lent (room .room-of .ensures)
+    (entries-none setLayout (setValue 8 (machine 8 m)) (m .k) (first .enter .ensures (machine 8 m)) (c .if1 .taken))
 
 loop-holds : tie.Need-loop-holds Inv-loop μ-loop
 loop-holds c =
@@ -56,7 +58,7 @@ loop-holds c =
     let M : Machine ℕ = machine 8 (asked (start .args .m) (start .args .arrows .now)) in (
       record { masks = refl; from = refl; event = refl },
       still-lent setLayout (goes (first .enter .ensures M)) (room-lent _ (first .before .before .before .before .room-of .ensures)),
-      λ old whole s. s,
+      record { on = λ old whole b. b },
     )
 
 slice-read-set : tie.Need-slice-read-set Inv-loop μ-loop
@@ -72,23 +74,34 @@ by-events-requires c κs =
     (first .before .before .before .before .before .before .before .before .before .before .before .before .pre, at .loop .inv .1)
 
 same-length-4 : tie.Need-same-length-4 Inv-loop μ-loop
-same-length-4 c = search needs
+same-length-4 c =
+    let call = c .before .before .before .before .before .before in
+    let at = call .before .before .before .before .before .before .before in
+    call .masks2 .given ∙ at .loop .inv .0 .masks ∙ at .before .before .before .before .before .before .before .masks .given
 
 same-length-5 : tie.Need-same-length-5 Inv-loop μ-loop
-same-length-5 c = search needs
+same-length-5 c =
+    let call = c .before .before .before .before in
+    let at = call .before .before .before .before .before .before .before .before .before in
+    call .from2 .given ∙ at .loop .inv .0 .from ∙ at .before .before .before .before .before .from .given
 
 same-length-6 : tie.Need-same-length-6 Inv-loop μ-loop
-same-length-6 c = search needs
+same-length-6 c =
+    let call = c .before .before in
+    let at = call .before .before .before .before .before .before .before .before .before .before .before in
+    call .event2 .given ∙ at .loop .inv .0 .event ∙ at .before .before .before .event .given
 
 returns-2 : tie.Need-returns-2 Inv-loop μ-loop
 returns-2 c =
     let called = c .before .before .before .before .before .before .before in
     let turn = called .before .before .before .before .before in
     let first = turn .before .before .before .before .before .before .before .before .before in
-    let asked-room = first .before .before .before .before in
-    table-fills _ (asked-room .before .before .before .before .before .before .before .before .pre) _ (asked-room .room-of .ensures)
-    (entries-cut setLayout _
-    (turn .before .loop .inv .2 _ _ (entries-begin setLayout _ _ (first .enter .ensures _) (turn .before .before .if1 .left)))
+    let room = first .before .before .before .before in
+    let start = room .before .before .before .before .before .before .before .before in
+    let m : Model = asked (start .args .m) (start .args .arrows .now) in
+    let lent : SetSlices = sets (start .args .masks .now) (start .args .from .now) (start .args .event .now) in
+    table-fills m (start .pre) lent (room .room-of .ensures)
+    (entries-cut setLayout (setValue 8 (machine 8 m)) (turn .before .loop .inv .2) (first .enter .ensures (machine 8 m)) (turn .before .before .if1 .left)
     (turn .loop-test .taken) _ (read-at _ _ _ (turn .loop-test .taken)) refl (called .by-events .ensures) (c .if2 .taken))
 
 add-i : tie.Need-add-i Inv-loop μ-loop
@@ -100,12 +113,16 @@ loop-less c = search needs
 loop-again : tie.Need-loop-again Inv-loop μ-loop
 loop-again c =
     let called = c .before .before .before .before .before .before .before in
-    let turn = called .before .before .before .before .before in (
-      record { masks = search needs; from = search needs; event = search needs },
-      search needs,
-      λ old whole s.
-          entries-next setLayout _ (turn .before .loop .inv .2 old whole s) (turn .loop-test .taken) _
-          (read-at _ _ _ (turn .loop-test .taken)) refl (called .by-events .ensures) (c .if2 .left),
+    let turn = called .before .before .before .before .before in
+    let lengths = turn .before .loop .inv .0 in (
+      record {
+        masks = c .before .before .before .before .before .before .masks2 .given ∙ lengths .masks;
+        from = c .before .before .before .before .from2 .given ∙ lengths .from;
+        event = c .before .before .event2 .given ∙ lengths .event;
+      },
+      still-lent setLayout (goes (called .by-events .ensures)) (turn .before .loop .inv .1),
+      entries-next setLayout _ (turn .before .loop .inv .2) (turn .loop-test .taken) _ (read-at _ _ _ (turn .loop-test .taken)) refl
+          (called .by-events .ensures) (c .if2 .left),
     )
 
 same-length-7 : tie.Need-same-length-7 Inv-loop μ-loop
@@ -120,10 +137,12 @@ same-length-9 c = search needs
 returns-3 : tie.Need-returns-3 Inv-loop μ-loop
 returns-3 c =
     let first = c .before .before .before .before .before .before .before .before .before in
-    let asked-room = first .before .before .before .before in
-    table-fills _ (asked-room .before .before .before .before .before .before .before .before .pre) _ (asked-room .room-of .ensures)
-    (entries-done setLayout _
-    (c .before .loop .inv .2 _ _ (entries-begin setLayout _ _ (first .enter .ensures _) (c .before .before .if1 .left)))
+    let room = first .before .before .before .before in
+    let start = room .before .before .before .before .before .before .before .before in
+    let m : Model = asked (start .args .m) (start .args .arrows .now) in
+    let lent : SetSlices = sets (start .args .masks .now) (start .args .from .now) (start .args .event .now) in
+    table-fills m (start .pre) lent (room .room-of .ensures)
+    (entries-done setLayout (setValue 8 (machine 8 m)) (c .before .loop .inv .2) (first .enter .ensures (machine 8 m)) (c .before .before .if1 .left)
     (c .loop-test .left))
 
 pub close-spec : {M : Type 1} → statement M
