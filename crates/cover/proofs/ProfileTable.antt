@@ -14,7 +14,7 @@ use Rattle.laws.specs.Answers.{ProfileSlices, over, profileRoom, profileSlices}
 use Rattle.laws.proofs.Booleans.{inside}
 use Rattle.laws.proofs.Places.{place-below}
 use Rattle.cover.specs.Values as code
-use Rattle.cover.specs.Memory.{profiles, entriesIn, profilesIn, going, ProfilesLent, Fills}
+use Rattle.cover.specs.Memory.{profileMemory, entriesIn, profilesIn, going, ProfilesLent, Fills}
 use Rattle.cover.specs.declared.table.Filled.{Filled}
 use Rattle.cover.specs.declared.profile.Profile as declared
 use Rattle.cover.specs.declared.profile.Before.{Before}
@@ -60,7 +60,7 @@ tested M l n x i e at = ap (λ (e : Entry Profile). sameProfile (e .value) x) (r
 -- THE FOUR COLUMNS: what F makes of each, a part of the entries and the slice in which it stands
 abbrev columns : ((Entry Profile → ℕ) → List ℕ → List ℕ) → ProfileSlices → ProfileSlices
 columns F l =
-    profiles (F (λ e. e .value .arrows) (l .arrows)) (F (λ e. e .value .marks) (l .marks)) (F (λ e. e .from) (l .from))
+    profileMemory (F (λ e. e .value .arrows) (l .arrows)) (F (λ e. e .value .marks) (l .marks)) (F (λ e. e .from) (l .from))
     (F (λ e. e .event) (l .event))
 
 -- F and G make the same of the four if they do so of any part f and slice old in which it stands, and in which there is room

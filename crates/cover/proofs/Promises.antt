@@ -3,12 +3,13 @@ use Prim.Native.Nat.{ℕ, _≤_}
 use native.Mathlib.Omega.{arith}
 use mathlib.Core.Path.{_≡_, refl, sym, ap, ap₂, _∙_}
 use mathlib.Core.List.{List, map}
-use lib.ListN.{length, length-map}
+use lib.ListN.{length, take, length-map}
 use Rattle.laws.specs.Model.{eight}
 use Rattle.laws.specs.Tables.{Entry}
 use Rattle.laws.specs.Profiles.{Profile, values}
 use Rattle.laws.specs.Answers.{SetSlices, ProfileSlices, setRoom, profileRoom, over, setSlices, profileSlices, closingIn}
 use Rattle.laws.proofs.Answered.{closing-within}
+use Rattle.laws.proofs.Read.{first-numbers}
 use Rattle.cover.specs.Values.{asked}
 use Rattle.cover.specs.Memory.{Kept}
 use Rattle.cover.specs.Closing.{Closing, due}
@@ -27,6 +28,13 @@ same-answer : (a b : Closed) → a .number ≡ b .number → a .sets ≡ b .sets
 same-answer a b n s p =
     ap (λ x. record { number = x; sets = a .sets; profiles = a .profiles }) n
     ∙ ap₂ (λ x y. record { number = b .number; sets = x; profiles = y }) s p
+
+-- CLOSING reads only the first k numbers of arrows: with k there, no other matters
+pub first-k-only : (m : Model) (arrows other : List ℕ) (S : SetSlices) (T : ProfileSlices) → m .k ≤ length arrows → m .k ≤ length other
+    → take (m .k) arrows ≡ take (m .k) other → due m arrows S T ≡ due m other S T
+unfolding closingIn
+first-k-only m arrows other S T here there same =
+    first-numbers (asked m arrows) other same eight here there (setRoom eight S) (profileRoom eight T)
 
 module _ {m : Model} {arrows : List ℕ} {S S′ : SetSlices} {T T′ : ProfileSlices} {answer : Closed}
     (c : Closing m arrows S S′ T T′ answer) where
@@ -60,7 +68,8 @@ module _ {m : Model} {arrows : List ℕ} {S S′ : SetSlices} {T T′ : ProfileS
         column (λ e. e .event) (omega (arith, sets-within)),
       )
     where
-      column : (f : Entry ℕ → ℕ) {old : List ℕ} → answer .sets ≤ length old → Kept (answer .sets) old (over (map f (due m arrows S T .sets)) old)
+      column : (f : Entry ℕ → ℕ) {old : List ℕ} → answer .sets ≤ length old
+          → Kept (answer .sets) old (over (map f (due m arrows S T .sets)) old)
       column f l = written _ _ (answer .sets) (length-map (due m arrows S T .sets) f ∙ sym (c .sets)) l
 
   pub profiles-kept : Kept (answer .profiles) (T .arrows) (T′ .arrows) × Kept (answer .profiles) (T .marks) (T′ .marks)
@@ -83,4 +92,6 @@ module _ {m : Model} {arrows : List ℕ} {S S′ : SetSlices} {T T′ : ProfileS
 
       value : (f : Profile → ℕ) {old : List ℕ} → answer .profiles ≤ length old
           → Kept (answer .profiles) old (over (map f (map (λ e. e .value) ts)) old)
-      value f l = written _ _ (answer .profiles) (length-map (map (λ e. e .value) ts) f ∙ length-map ts (λ e. e .value) ∙ sym (c .profiles)) l
+      value f l =
+          written _ _ (answer .profiles)
+          (length-map (map (λ e. e .value) ts) f ∙ length-map ts (λ e. e .value) ∙ sym (c .profiles)) l

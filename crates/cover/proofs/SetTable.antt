@@ -15,7 +15,7 @@ use Rattle.laws.specs.Answers.{SetSlices, over, setRoom, setSlices}
 use Rattle.laws.proofs.Booleans.{inside}
 use Rattle.laws.proofs.Places.{place-below}
 use Rattle.laws.proofs.Unrefused.{start-mask}
-use Rattle.cover.specs.Memory.{sets, entriesIn, setsIn, going, SetsLent, Fills}
+use Rattle.cover.specs.Memory.{setMemory, entriesIn, setsIn, going, SetsLent, Fills}
 use Rattle.cover.specs.declared.table.Filled.{Filled}
 use Rattle.cover.proofs.Slices.{column-again, column-at, column-length, column-same, column-set}
 use Rattle.cover.proofs.Slices.{entries-length, entries-at, entries-are}
@@ -83,7 +83,8 @@ module _ (l : SetSlices) (n room : ℕ) (h : SetsLent l n room) where
 
   -- one set more, with where it came from and its event, stored in the next place of each slice
   pub stored-next : (e : Entry ℕ) → n < room
-      → sets (set (l .masks) n (e .value)) (set (l .from) n (e .from)) (set (l .event) n (e .event)) ≡ setSlices (setsIn l n ++ (e ∷ [])) l
+      → setMemory (set (l .masks) n (e .value)) (set (l .from) n (e .from)) (set (l .event) n (e .event))
+      ≡ setSlices (setsIn l n ++ (e ∷ [])) l
   unfolding setSlices values
   stored-next e r =
       rw (

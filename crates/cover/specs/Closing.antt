@@ -34,8 +34,8 @@ module _ (m : Model) (arrows : List ℕ) where
     -- every lent slice: what was entered, then what stood there before
     pub set-slices : S′ ≡ setSlices (due S T .sets) S
     pub profile-slices : T′ ≡ profileSlices (due S T .profiles) T
-    -- said by the complete lists: there are all sets and all profiles, and the answer is what document 01 lists for them, 4 exactly if there
-    -- are more sets than room, and otherwise 5 exactly if there are more profiles than room
+    -- said by complete lists: there are all sets and all profiles, and the answer is what document 01 lists for them. It is 4 exactly if
+    -- there are more sets than room, and otherwise 5 exactly if there are more profiles than room
     pub all-sets : List (Entry ℕ)
     pub sets-are-all : AllSets all-sets
     pub all-profiles : List (Entry paper.Profile)

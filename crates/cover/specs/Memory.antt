@@ -1,4 +1,4 @@
--- What stands in lent slices: the entries in their first places, what a caller has seen to, and what filling a table leaves.
+-- What stands in lent slices: the entries in their first places, what must hold of them before a call, and what filling a table leaves.
 use Prim.Native.Nat.{ℕ, _<_, _≤_}
 use mathlib.Core.Path.{_≡_}
 use mathlib.Core.Bool.{false}
@@ -13,11 +13,11 @@ use Rattle.laws.specs.Answers.{SetSlices, ProfileSlices}
 use Rattle.cover.specs.declared.table.Filled.{Filled}
 
 -- the slices of a table as one value
-abbrev pub sets : List ℕ → List ℕ → List ℕ → SetSlices
-sets masks from event = record { masks = masks; from = from; event = event }
+abbrev pub setMemory : List ℕ → List ℕ → List ℕ → SetSlices
+setMemory masks from event = record { masks = masks; from = from; event = event }
 
-abbrev pub profiles : List ℕ → List ℕ → List ℕ → List ℕ → ProfileSlices
-profiles arrows marks from event = record { arrows = arrows; marks = marks; from = from; event = event }
+abbrev pub profileMemory : List ℕ → List ℕ → List ℕ → List ℕ → ProfileSlices
+profileMemory arrows marks from event = record { arrows = arrows; marks = marks; from = from; event = event }
 
 -- the entries in the first count places; value says what the other slices hold there
 unfoldable pub entriesIn : {Value : Type 0} → (ℕ → Value) → List ℕ → List ℕ → ℕ → List (Entry Value)
@@ -29,11 +29,11 @@ setsIn l count = entriesIn (λ i. getD (l .masks) i 0) (l .from) (l .event) coun
 unfoldable pub profilesIn : ProfileSlices → ℕ → List (Entry Profile)
 profilesIn l count = entriesIn (λ i. record { arrows = getD (l .arrows) i 0; marks = getD (l .marks) i 0 }) (l .from) (l .event) count
 
--- a table that is not cut
+-- these entries as a table that is not cut
 abbrev pub going : {Value : Type 0} → List (Entry Value) → Table Value
 going entries = record { entries = entries; cut = false }
 
--- there is room in every slice, and the count is within it
+-- there is room in every slice, the count is within it, and it is within the limit, so that an entry's number fits its slice
 pub record SetsLent (l : SetSlices) (count room : ℕ) : Type 0 where
   pub count-within : count ≤ room
   pub masks-within : room ≤ length (l .masks)
@@ -68,6 +68,6 @@ pub record Linked (from event : List ℕ) : Type 0 where
   pub events-there : length from ≤ length event
   pub falls : (i : ℕ) → i < length from → (getD from i 0 ≡ noEntry) ⊎ (getD from i 0 < i)
 
--- the word of entry number i, by these two slices
+-- the word of entry number i, by these two slices; the values of the entries play no part in it
 unfoldable pub wordIn : List ℕ → List ℕ → ℕ → words.Word
 wordIn from event i = wordOf (entriesIn (λ j. j) from event (length from)) i

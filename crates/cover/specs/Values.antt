@@ -28,12 +28,12 @@ plain arrows = record { arrows = arrows; marks = 0 }
 unfoldable pub eventValue : ℕ → ℕ → paper.Profile
 eventValue arrows home = record { arrows = arrows; marks = grid 8 (λ p q. cell 8 arrows p q && bit home q) }
 
--- the profile of what was read so far
+-- the profile of what was read so far: none where nothing was
 abbrev pub before : Before → Option paper.Profile
 before Nothing = none
 before (Word t) = some (profile t)
 
--- what an event makes of it
+-- the profile of what was read with one event more
 abbrev pub nextValue : Before → Profile → paper.Profile
 nextValue Nothing event = profile event
 nextValue (Word t) event = paper.join 8 (profile t) (profile event)

@@ -13,7 +13,7 @@ pub fn has(x: u64, i: usize) -> bool
     (x >> i) % 2 == 1
 }
 
-// The number of a flag.
+// 1 for true, 0 for false.
 pub fn one(flag: bool) -> u64
     ensures { λ r. ⌜ r ≡ cond flag 1 0 ⌝ }
 {

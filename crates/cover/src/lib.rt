@@ -11,7 +11,7 @@ mod table;
 mod words;
 
 pub use model::Model;
-ghost use Rattle.cover.specs.Memory.{sets, profiles};
+ghost use Rattle.cover.specs.Memory.{setMemory, profileMemory};
 ghost use Rattle.cover.specs.Closing.{Closing};
 
 // What closing answers: the number, and how many sets and profiles stand in the lent slices.
@@ -21,7 +21,7 @@ pub struct Closed {
     pub profiles: usize,
 }
 
-// Closes a model: its sets into three slices, its profiles into four.
+// Closes a model: its sets into three slices, its profiles into four. Takes any model and any slices.
 pub fn close(
     m: Model,
     arrows: &[u64],
@@ -34,10 +34,12 @@ pub fn close(
     profile_event: &mut [u8],
 ) -> Closed
     ensures { λ r. ⌜ Closing m (now (arrows .entry))
-        (sets (now («set_masks» .entry)) (now («set_from» .entry)) (now («set_event» .entry)))
-        (sets (now («set_masks» .exit)) (now («set_from» .exit)) (now («set_event» .exit)))
-        (profiles (now («profile_arrows» .entry)) (now («profile_marks» .entry)) (now («profile_from» .entry)) (now («profile_event» .entry)))
-        (profiles (now («profile_arrows» .exit)) (now («profile_marks» .exit)) (now («profile_from» .exit)) (now («profile_event» .exit)))
+        (setMemory (now («set_masks» .entry)) (now («set_from» .entry)) (now («set_event» .entry)))
+        (setMemory (now («set_masks» .exit)) (now («set_from» .exit)) (now («set_event» .exit)))
+        (profileMemory (now («profile_arrows» .entry)) (now («profile_marks» .entry))
+        (now («profile_from» .entry)) (now («profile_event» .entry)))
+        (profileMemory (now («profile_arrows» .exit)) (now («profile_marks» .exit))
+        (now («profile_from» .exit)) (now («profile_event» .exit)))
         r ⌝ }
 {
     let number = refusal::refusal(m, arrows);

@@ -10,6 +10,7 @@ pub struct Model {
 }
 
 impl Model {
+    // At most so many of each: the limits of this kind.
     pub const STATES: usize = 8;
 
     pub const EVENTS: usize = 16;

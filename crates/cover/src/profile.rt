@@ -15,13 +15,13 @@ pub struct Profile {
     pub marks: u64,
 }
 
-// The profile of what was read so far: the empty word has none.
+// What was read so far: nothing, or a word with this profile.
 pub enum Before {
     Nothing,
     Word(Profile),
 }
 
-// p to r in s and r to q in t.
+// The way from p to q through r: s leads to r, and t leads on.
 fn leads_via(s: Profile, t: Profile, p: usize, r: usize, q: usize) -> bool
     requires { ⌜ (p < 8) × (r < 8) × (q < 8) ⌝ }
     ensures { λ b. ⌜ b ≡ (leadsTo 8 (profile s) p r && leadsTo 8 (profile t) r q) ⌝ }
@@ -29,7 +29,7 @@ fn leads_via(s: Profile, t: Profile, p: usize, r: usize, q: usize) -> bool
     has(s.arrows, Model::STATES * p + r) & has(t.arrows, Model::STATES * r + q)
 }
 
-// The same, and at least one of the two is marked.
+// Such a way on which s or t has a mark.
 fn marks_via(s: Profile, t: Profile, p: usize, r: usize, q: usize) -> bool
     requires { ⌜ (p < 8) × (r < 8) × (q < 8) ⌝ }
     ensures { λ b. ⌜ b ≡ (leadsTo 8 (profile s) p r && leadsTo 8 (profile t) r q
@@ -39,7 +39,7 @@ fn marks_via(s: Profile, t: Profile, p: usize, r: usize, q: usize) -> bool
     leads_via(s, t, p, r, q) & marked
 }
 
-// For some r.
+// s and then t lead from p to q, through some r.
 fn leads_at(s: Profile, t: Profile, p: usize, q: usize) -> bool
     requires { ⌜ (p < 8) × (q < 8) ⌝ }
     ensures { λ b. ⌜ b ≡ someBelow 8 (λ r. leadsTo 8 (profile s) p r && leadsTo 8 (profile t) r q) ⌝ }
@@ -54,6 +54,7 @@ fn leads_at(s: Profile, t: Profile, p: usize, q: usize) -> bool
     false
 }
 
+// And on one of these ways there is a mark.
 fn marks_at(s: Profile, t: Profile, p: usize, q: usize) -> bool
     requires { ⌜ (p < 8) × (q < 8) ⌝ }
     ensures { λ b. ⌜ b ≡ someBelow 8 (λ r. leadsTo 8 (profile s) p r && leadsTo 8 (profile t) r q
@@ -69,7 +70,7 @@ fn marks_at(s: Profile, t: Profile, p: usize, q: usize) -> bool
     false
 }
 
-// s then t. The flags are packed from the top.
+// s and then t: a flag for every p and q, and both rows of flags packed.
 pub fn join(s: Profile, t: Profile) -> Profile
     ensures { λ x. ⌜ profile x ≡ joined 8 (profile s) (profile t) ⌝ }
 {
@@ -95,7 +96,7 @@ fn arrives_home(arrows: u64, home: u8, i: usize) -> bool
     has(arrows, i) & has(home as u64, i % Model::STATES)
 }
 
-// The profile of one event, from its arrows.
+// The profile of one event, from its number of arrows.
 pub fn of_event(arrows: u64, home: u8) -> Profile
     ensures { λ x. ⌜ profile x ≡ eventValue arrows home ⌝ }
 {
@@ -111,7 +112,7 @@ pub fn of_event(arrows: u64, home: u8) -> Profile
     }
 }
 
-// The profile of a word with one event more.
+// The profile of what was read with one event more.
 pub fn next(x: Before, event: Profile) -> Profile
     ensures { λ y. ⌜ profile y ≡ nextValue x event ⌝ }
 {

@@ -8,7 +8,7 @@ ghost use Rattle.laws.specs.Profiles.{sameProfile, profileValue, profileTable};
 ghost use Rattle.laws.specs.Refusals.{Unrefused};
 ghost use Rattle.laws.specs.Answers.{profileRoom, profileSlices};
 ghost use Rattle.cover.specs.Values.{asked, profile, before as beforeOf, FirstPlace};
-ghost use Rattle.cover.specs.Memory.{profiles, profilesIn, going, ProfilesLent, Fills};
+ghost use Rattle.cover.specs.Memory.{profileMemory, profilesIn, going, ProfilesLent, Fills};
 use crate::events::profile_of;
 use crate::model::Model;
 use crate::profile::Before;
@@ -35,7 +35,8 @@ fn find(arrows: &[u64], marks: &[u64], count: usize, x: Profile) -> usize
     count
 }
 
-// Enters a profile that is not there yet, or cuts the table where there is no room.
+// Enters a profile that is not there yet, or cuts the table where there is no room. Which machine it is does not matter: profiles are
+// only compared.
 fn enter(
     arrows: &mut [u64],
     marks: &mut [u64],
@@ -44,15 +45,15 @@ fn enter(
     count: usize,
     room: usize,
     x: Profile,
-    before: u16,
+    origin: u16,
     last: u8,
 ) -> Filled
-    requires { ⌜ ProfilesLent (profiles (now arrows) (now marks) (now from) (now event)) count room ⌝ }
+    requires { ⌜ ProfilesLent (profileMemory (now arrows) (now marks) (now from) (now event)) count room ⌝ }
     ensures { λ r. ⌜ ((M : Machine ℕ) → Fills profileSlices room
-        (entered (profileValue 8 M) room (record { value = profile x; from = before; event = last })
-        (going (profilesIn (profiles (now (arrows .entry)) (now (marks .entry)) (now (from .entry)) (now (event .entry))) count)))
-        (profiles (now (arrows .entry)) (now (marks .entry)) (now (from .entry)) (now (event .entry)))
-        (profiles (now (arrows .exit)) (now (marks .exit)) (now (from .exit)) (now (event .exit))) r) ⌝ }
+        (entered (profileValue 8 M) room (record { value = profile x; from = origin; event = last })
+        (going (profilesIn (profileMemory (now (arrows .entry)) (now (marks .entry)) (now (from .entry)) (now (event .entry))) count)))
+        (profileMemory (now (arrows .entry)) (now (marks .entry)) (now (from .entry)) (now (event .entry)))
+        (profileMemory (now (arrows .exit)) (now (marks .exit)) (now (from .exit)) (now (event .exit))) r) ⌝ }
 {
     if find(arrows, marks, count, x) < count {
         return Filled { count, cut: false };
@@ -62,7 +63,7 @@ fn enter(
     }
     arrows[count] = x.arrows;
     marks[count] = x.marks;
-    from[count] = before;
+    from[count] = origin;
     event[count] = last;
     Filled {
         count: count + 1,
@@ -81,21 +82,21 @@ fn by_events(
     count: usize,
     room: usize,
     x: Before,
-    before: u16,
+    origin: u16,
 ) -> Filled
     requires { ⌜ Unrefused eight (asked m (now lent)) ⌝ }
-    requires { ⌜ ProfilesLent (profiles (now arrows) (now marks) (now from) (now event)) count room ⌝ }
+    requires { ⌜ ProfilesLent (profileMemory (now arrows) (now marks) (now from) (now event)) count room ⌝ }
     ensures { λ r. ⌜ Fills profileSlices room
-        (byEvents (profileValue 8 (machine 8 (asked m (now (lent .entry))))) room before (beforeOf x) (m .k) 0
-        (going (profilesIn (profiles (now (arrows .entry)) (now (marks .entry)) (now (from .entry)) (now (event .entry))) count)))
-        (profiles (now (arrows .entry)) (now (marks .entry)) (now (from .entry)) (now (event .entry)))
-        (profiles (now (arrows .exit)) (now (marks .exit)) (now (from .exit)) (now (event .exit))) r ⌝ }
+        (byEvents (profileValue 8 (machine 8 (asked m (now (lent .entry))))) room origin (beforeOf x) (m .k) 0
+        (going (profilesIn (profileMemory (now (arrows .entry)) (now (marks .entry)) (now (from .entry)) (now (event .entry))) count)))
+        (profileMemory (now (arrows .entry)) (now (marks .entry)) (now (from .entry)) (now (event .entry)))
+        (profileMemory (now (arrows .exit)) (now (marks .exit)) (now (from .exit)) (now (event .exit))) r ⌝ }
 {
     let mut n = count;
     let mut a = 0;
     while a < m.k {
         let y = next(x, profile_of(m, lent, a));
-        let filled = enter(arrows, marks, from, event, n, room, y, before, a as u8);
+        let filled = enter(arrows, marks, from, event, n, room, y, origin, a as u8);
         if filled.cut {
             return filled;
         }
@@ -110,7 +111,8 @@ fn by_events(
 
 // The room: the least of the slices and the limit.
 fn room_of(arrows: &[u64], marks: &[u64], from: &[u16], event: &[u8]) -> usize
-    ensures { λ r. ⌜ r ≡ profileRoom eight (profiles (now (arrows .entry)) (now (marks .entry)) (now (from .entry)) (now (event .entry))) ⌝ }
+    ensures { λ r. ⌜ r ≡ profileRoom eight
+        (profileMemory (now (arrows .entry)) (now (marks .entry)) (now (from .entry)) (now (event .entry))) ⌝ }
 {
     least(
         least(
@@ -131,11 +133,12 @@ pub fn close(
     event: &mut [u8],
 ) -> Filled
     requires { ⌜ Unrefused eight (asked m (now lent)) ⌝ }
-    ensures { λ r. ⌜ Fills profileSlices (profileRoom eight (profiles (now (arrows .entry)) (now (marks .entry)) (now (from .entry)) (now (event .entry))))
+    ensures { λ r. ⌜ Fills profileSlices
+        (profileRoom eight (profileMemory (now (arrows .entry)) (now (marks .entry)) (now (from .entry)) (now (event .entry))))
         (profileTable 8 (machine 8 (asked m (now (lent .entry)))) (m .k)
-        (profileRoom eight (profiles (now (arrows .entry)) (now (marks .entry)) (now (from .entry)) (now (event .entry)))))
-        (profiles (now (arrows .entry)) (now (marks .entry)) (now (from .entry)) (now (event .entry)))
-        (profiles (now (arrows .exit)) (now (marks .exit)) (now (from .exit)) (now (event .exit))) r ⌝ }
+        (profileRoom eight (profileMemory (now (arrows .entry)) (now (marks .entry)) (now (from .entry)) (now (event .entry)))))
+        (profileMemory (now (arrows .entry)) (now (marks .entry)) (now (from .entry)) (now (event .entry)))
+        (profileMemory (now (arrows .exit)) (now (marks .exit)) (now (from .exit)) (now (event .exit))) r ⌝ }
 {
     let room = room_of(arrows, marks, from, event);
     let first = by_events(

@@ -10,7 +10,7 @@ ghost use Rattle.laws.specs.Profiles.{setValue, setTable};
 ghost use Rattle.laws.specs.Refusals.{Unrefused};
 ghost use Rattle.laws.specs.Answers.{setRoom, setSlices};
 ghost use Rattle.cover.specs.Values.{asked, FirstPlace};
-ghost use Rattle.cover.specs.Memory.{sets, setsIn, going, SetsLent, Fills};
+ghost use Rattle.cover.specs.Memory.{setMemory, setsIn, going, SetsLent, Fills};
 use crate::events::after;
 use crate::model::Model;
 use crate::table::Filled;
@@ -33,7 +33,8 @@ fn find(masks: &[u8], count: usize, set: u8) -> usize
     count
 }
 
-// Enters a set that is not there yet, or cuts the table where there is no room.
+// Enters a set that is not there yet, or cuts the table where there is no room. Which machine it is does not matter: sets are only
+// compared.
 fn enter(
     masks: &mut [u8],
     from: &mut [u16],
@@ -41,15 +42,15 @@ fn enter(
     count: usize,
     room: usize,
     set: u8,
-    before: u16,
+    origin: u16,
     last: u8,
 ) -> Filled
-    requires { ⌜ SetsLent (sets (now masks) (now from) (now event)) count room ⌝ }
+    requires { ⌜ SetsLent (setMemory (now masks) (now from) (now event)) count room ⌝ }
     ensures { λ r. ⌜ ((M : Machine ℕ) → Fills setSlices room
-        (entered (setValue 8 M) room (record { value = set; from = before; event = last })
-        (going (setsIn (sets (now (masks .entry)) (now (from .entry)) (now (event .entry))) count)))
-        (sets (now (masks .entry)) (now (from .entry)) (now (event .entry)))
-        (sets (now (masks .exit)) (now (from .exit)) (now (event .exit))) r) ⌝ }
+        (entered (setValue 8 M) room (record { value = set; from = origin; event = last })
+        (going (setsIn (setMemory (now (masks .entry)) (now (from .entry)) (now (event .entry))) count)))
+        (setMemory (now (masks .entry)) (now (from .entry)) (now (event .entry)))
+        (setMemory (now (masks .exit)) (now (from .exit)) (now (event .exit))) r) ⌝ }
 {
     if find(masks, count, set) < count {
         return Filled { count, cut: false };
@@ -58,7 +59,7 @@ fn enter(
         return Filled { count, cut: true };
     }
     masks[count] = set;
-    from[count] = before;
+    from[count] = origin;
     event[count] = last;
     Filled {
         count: count + 1,
@@ -76,15 +77,15 @@ fn by_events(
     count: usize,
     room: usize,
     set: u8,
-    before: u16,
+    origin: u16,
 ) -> Filled
     requires { ⌜ Unrefused eight (asked m (now arrows)) ⌝ }
-    requires { ⌜ SetsLent (sets (now masks) (now from) (now event)) count room ⌝ }
+    requires { ⌜ SetsLent (setMemory (now masks) (now from) (now event)) count room ⌝ }
     ensures { λ r. ⌜ Fills setSlices room
-        (byEvents (setValue 8 (machine 8 (asked m (now (arrows .entry))))) room before (some set) (m .k) 0
-        (going (setsIn (sets (now (masks .entry)) (now (from .entry)) (now (event .entry))) count)))
-        (sets (now (masks .entry)) (now (from .entry)) (now (event .entry)))
-        (sets (now (masks .exit)) (now (from .exit)) (now (event .exit))) r ⌝ }
+        (byEvents (setValue 8 (machine 8 (asked m (now (arrows .entry))))) room origin (some set) (m .k) 0
+        (going (setsIn (setMemory (now (masks .entry)) (now (from .entry)) (now (event .entry))) count)))
+        (setMemory (now (masks .entry)) (now (from .entry)) (now (event .entry)))
+        (setMemory (now (masks .exit)) (now (from .exit)) (now (event .exit))) r ⌝ }
 {
     let mut n = count;
     let mut a = 0;
@@ -96,7 +97,7 @@ fn by_events(
             n,
             room,
             after(m, arrows, set, a),
-            before,
+            origin,
             a as u8,
         );
         if filled.cut {
@@ -113,7 +114,7 @@ fn by_events(
 
 // The room: the least of the slices and the limit.
 fn room_of(masks: &[u8], from: &[u16], event: &[u8]) -> usize
-    ensures { λ r. ⌜ r ≡ setRoom eight (sets (now (masks .entry)) (now (from .entry)) (now (event .entry))) ⌝ }
+    ensures { λ r. ⌜ r ≡ setRoom eight (setMemory (now (masks .entry)) (now (from .entry)) (now (event .entry))) ⌝ }
 {
     least(
         least(masks.len(), least(from.len(), event.len())),
@@ -130,11 +131,11 @@ pub fn close(
     event: &mut [u8],
 ) -> Filled
     requires { ⌜ Unrefused eight (asked m (now arrows)) ⌝ }
-    ensures { λ r. ⌜ Fills setSlices (setRoom eight (sets (now (masks .entry)) (now (from .entry)) (now (event .entry))))
+    ensures { λ r. ⌜ Fills setSlices (setRoom eight (setMemory (now (masks .entry)) (now (from .entry)) (now (event .entry))))
         (setTable 8 (machine 8 (asked m (now (arrows .entry)))) (m .k)
-        (setRoom eight (sets (now (masks .entry)) (now (from .entry)) (now (event .entry)))))
-        (sets (now (masks .entry)) (now (from .entry)) (now (event .entry)))
-        (sets (now (masks .exit)) (now (from .exit)) (now (event .exit))) r ⌝ }
+        (setRoom eight (setMemory (now (masks .entry)) (now (from .entry)) (now (event .entry)))))
+        (setMemory (now (masks .entry)) (now (from .entry)) (now (event .entry)))
+        (setMemory (now (masks .exit)) (now (from .exit)) (now (event .exit))) r ⌝ }
 {
     let room = room_of(masks, from, event);
     let first = enter(masks, from, event, 0, room, m.start, NO_ENTRY, NO_EVENT);

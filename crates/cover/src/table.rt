@@ -13,6 +13,7 @@ pub const NO_ENTRY: u16 = 65535;
 
 pub const NO_EVENT: u8 = 255;
 
+// The smaller of two lengths.
 pub fn least(a: usize, b: usize) -> usize
     ensures { λ r. ⌜ r ≡ min a b ⌝ }
 {

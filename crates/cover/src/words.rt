@@ -11,14 +11,14 @@ pub fn count(from: &[u16], event: &[u8], i: usize) -> usize
     requires { ⌜ (i < length (now from)) × Linked (now from) (now event) ⌝ }
     ensures { λ r. ⌜ r ≡ length (wordIn (now (from .entry)) (now (event .entry)) i) ⌝ }
 {
-    let before = from[i];
-    if before == NO_ENTRY {
+    let origin = from[i];
+    if origin == NO_ENTRY {
         if event[i] == NO_EVENT {
             return 0;
         }
         return 1;
     }
-    count(from, event, before as usize) + 1
+    count(from, event, origin as usize) + 1
 }
 
 // Writes the word of entry i to a part that has exactly its length.
@@ -27,8 +27,8 @@ pub fn write(from: &[u16], event: &[u8], i: usize, out: &mut [u8])
     requires { ⌜ length (now out) ≡ length (wordIn (now from) (now event) i) ⌝ }
     ensures { λ _. ⌜ now (out .exit) ≡ wordIn (now (from .entry)) (now (event .entry)) i ⌝ }
 {
-    let before = from[i];
-    if before == NO_ENTRY {
+    let origin = from[i];
+    if origin == NO_ENTRY {
         if event[i] == NO_EVENT {
             return;
         }
@@ -37,5 +37,5 @@ pub fn write(from: &[u16], event: &[u8], i: usize, out: &mut [u8])
     }
     let last = out.len() - 1;
     out[last] = event[i];
-    write(from, event, before as usize, &mut out[..last]);
+    write(from, event, origin as usize, &mut out[..last]);
 }

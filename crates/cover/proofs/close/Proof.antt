@@ -28,7 +28,8 @@ same-length-3 c = search needs
 returns-2 : tie.Need-returns-2
 returns-2 c =
     let d = c .before .before .before .before .before .before .before in
-    more-sets _ _ _ _ (sym (d .before .before .before .before .if1 .left) ∙ d .before .before .before .before .before .refusal .ensures) (d .close .ensures) (c .if2 .taken)
+    more-sets _ _ _ _ (sym (d .before .before .before .before .if1 .left) ∙ d .before .before .before .before .before .refusal .ensures)
+    (d .close .ensures) (c .if2 .taken)
 
 close-requires-2 : tie.Need-close-requires-2
 close-requires-2 c κs =

@@ -8,23 +8,23 @@ use Rattle.laws.specs.Tables.{WordValue, byEvents}
 use Rattle.laws.specs.Profiles.{Profile, profileValue}
 use Rattle.laws.specs.Answers.{ProfileSlices, profileSlices}
 use Rattle.cover.specs.Values.{asked, before as beforeOf}
-use Rattle.cover.specs.Memory.{profiles, profilesIn, going}
+use Rattle.cover.specs.Memory.{profileMemory, profilesIn, going}
 use Rattle.cover.proofs.Filling.{ByEvents, still-lent, events-begin, events-cut, events-next, events-done}
 use Rattle.cover.proofs.ProfileTable.{next-value, profileLayout, SameLengths}
 use Rattle.cover.proofs.profiles.by_events.Statement.{statement}
 use Rattle.cover.proofs.profiles.by_events.Tie as tie
 
 abbrev Inv-loop : tie.InvT-loop
-Inv-loop m lent arrows₀ marks₀ from₀ event₀ count room x before n₀ a₀ arrows marks from event n a =
+Inv-loop m lent arrows₀ marks₀ from₀ event₀ count room x origin n₀ a₀ arrows marks from event n a =
     let Val : WordValue Profile = profileValue 8 (machine 8 (asked m lent)) in
-    let old : ProfileSlices = profiles arrows₀ marks₀ from₀ event₀ in
-    let now : ProfileSlices = profiles arrows marks from event in
+    let old : ProfileSlices = profileMemory arrows₀ marks₀ from₀ event₀ in
+    let now : ProfileSlices = profileMemory arrows marks from event in
     SameLengths old now
-    × ByEvents Val profileSlices room before (beforeOf x) (m .k)
-    (byEvents Val room before (beforeOf x) (m .k) 0 (going (profilesIn old count))) old now n a
+    × ByEvents Val profileSlices room origin (beforeOf x) (m .k)
+    (byEvents Val room origin (beforeOf x) (m .k) 0 (going (profilesIn old count))) old now n a
 
 abbrev μ-loop : tie.MeasureT-loop
-μ-loop m lent arrows₀ marks₀ from₀ event₀ count room x before n₀ a₀ arrows marks from event n a = m .k - a
+μ-loop m lent arrows₀ marks₀ from₀ event₀ count room x origin n₀ a₀ arrows marks from event n a = m .k - a
 
 loop-holds : tie.Need-loop-holds Inv-loop μ-loop
 loop-holds c = (search needs, events-begin profileLayout _ _ _ (c .before .before .before .before .before .pre .1))
@@ -84,7 +84,8 @@ loop-again c =
         event = c .before .before .event .given ∙ lengths .event;
       },
       events-next profileLayout _ (turn .before .before .loop .inv .1) (turn .if1 .taken)
-          (next-value _ _ (start .args .x) (made .before .profile-of .ensures) (made .next .ensures)) (called .enter .ensures _) (c .if2 .left),
+          (next-value _ _ (start .args .x) (made .before .profile-of .ensures) (made .next .ensures)) (called .enter .ensures _)
+          (c .if2 .left),
     )
 
 same-length-5 : tie.Need-same-length-5 Inv-loop μ-loop

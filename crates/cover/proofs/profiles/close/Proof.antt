@@ -8,7 +8,7 @@ use Rattle.laws.specs.Tables.{WordValue}
 use Rattle.laws.specs.Profiles.{Profile, profileValue}
 use Rattle.laws.specs.Answers.{ProfileSlices, profileSlices}
 use Rattle.cover.specs.Values.{asked}
-use Rattle.cover.specs.Memory.{profiles, ProfilesLent}
+use Rattle.cover.specs.Memory.{profileMemory, ProfilesLent}
 use Rattle.cover.proofs.Filling.{Since, goes, still-lent, entries-none, entries-cut, entries-next, entries-done}
 use Rattle.cover.proofs.ProfileTable.{read-at, profileLayout, SameLengths, room-lent, table-fills}
 use Rattle.cover.proofs.profiles.close.Statement.{statement}
@@ -17,8 +17,8 @@ use Rattle.cover.proofs.profiles.close.Tie as tie
 abbrev Inv-loop : tie.InvT-loop
 Inv-loop m lent arrows₀ marks₀ from₀ event₀ room n₀ i₀ arrows marks from event n i =
     let Val : WordValue Profile = profileValue 8 (machine 8 (asked m lent)) in
-    let begun : ProfileSlices = profiles arrows₀ marks₀ from₀ event₀ in
-    let now : ProfileSlices = profiles arrows marks from event in
+    let begun : ProfileSlices = profileMemory arrows₀ marks₀ from₀ event₀ in
+    let now : ProfileSlices = profileMemory arrows marks from event in
     SameLengths begun now
     × ProfilesLent now n room
     × Since Val profileSlices (m .k) room begun now n₀ n i
@@ -47,9 +47,10 @@ same-length-4 c = search needs
 returns : tie.Need-returns Inv-loop μ-loop
 returns c =
     let first = c .before .before .before .before .before .before .before .before .before in
-    let start = first .before .before .before .before .before .before .before .before .before .before .before .before .before .before .before .args in
+    let asked-room = first .before .before .before .before .before in
+    let start = asked-room .before .before .before .before .before .before .before .before .before .before .args in
     let M : Machine ℕ = machine 8 (asked (start .m) (start .lent .now)) in
-    let lent : ProfileSlices = profiles (start .arrows .now) (start .marks .now) (start .from .now) (start .event .now) in
+    let lent : ProfileSlices = profileMemory (start .arrows .now) (start .marks .now) (start .from .now) (start .event .now) in
     table-fills M (start .m .k) lent (first .before .before .before .before .before .room-of .ensures)
     (entries-none profileLayout (profileValue 8 M) (start .m .k) (first .by-events .ensures) (c .if1 .taken))
 
@@ -81,13 +82,15 @@ by-events-requires-2 : tie.Need-by-events-requires-2 Inv-loop μ-loop
 by-events-requires-2 c κs =
     let at = c .before .before .before .before .before .before .before in
     let first = at .before .before .before .before .before .before .before .before .before .before in
-    (first .before .before .before .before .before .before .before .before .before .before .before .before .before .before .before .pre, at .loop .inv .1)
+    let start = first .before .before .before .before .before .before .before .before in
+    (start .before .before .before .before .before .before .before .pre, at .loop .inv .1)
 
 same-length-5 : tie.Need-same-length-5 Inv-loop μ-loop
 same-length-5 c =
     let call = c .before .before .before .before .before .before .before .before in
     let at = call .before .before .before .before .before .before .before .before .before in
-    call .arrows2 .given ∙ at .loop .inv .0 .arrows ∙ at .before .before .before .before .before .before .before .before .before .arrows .given
+    call .arrows2 .given ∙ at .loop .inv .0 .arrows
+    ∙ at .before .before .before .before .before .before .before .before .before .arrows .given
 
 same-length-6 : tie.Need-same-length-6 Inv-loop μ-loop
 same-length-6 c =
@@ -112,9 +115,10 @@ returns-2 c =
     let again = c .before .before .before .before .before .before .before .before .before in
     let turn = again .before .before .before .before .before .before .before in
     let first = turn .before .before .before .before .before .before .before .before .before .before .before in
-    let start = first .before .before .before .before .before .before .before .before .before .before .before .before .before .before .before .args in
+    let asked-room = first .before .before .before .before .before in
+    let start = asked-room .before .before .before .before .before .before .before .before .before .before .args in
     let M : Machine ℕ = machine 8 (asked (start .m) (start .lent .now)) in
-    let lent : ProfileSlices = profiles (start .arrows .now) (start .marks .now) (start .from .now) (start .event .now) in
+    let lent : ProfileSlices = profileMemory (start .arrows .now) (start .marks .now) (start .from .now) (start .event .now) in
     table-fills M (start .m .k) lent (first .before .before .before .before .before .room-of .ensures)
     (entries-cut profileLayout (profileValue 8 M) (turn .before .loop .inv .2) (first .by-events .ensures) (turn .before .before .if1 .left)
     (turn .loop-test .taken) _ (read-at _ _ _ (turn .loop-test .taken)) refl (again .by-events2 .ensures) (c .if2 .taken))
@@ -156,9 +160,10 @@ same-length-12 c = search needs
 returns-3 : tie.Need-returns-3 Inv-loop μ-loop
 returns-3 c =
     let first = c .before .before .before .before .before .before .before .before .before .before .before in
-    let start = first .before .before .before .before .before .before .before .before .before .before .before .before .before .before .before .args in
+    let asked-room = first .before .before .before .before .before in
+    let start = asked-room .before .before .before .before .before .before .before .before .before .before .args in
     let M : Machine ℕ = machine 8 (asked (start .m) (start .lent .now)) in
-    let lent : ProfileSlices = profiles (start .arrows .now) (start .marks .now) (start .from .now) (start .event .now) in
+    let lent : ProfileSlices = profileMemory (start .arrows .now) (start .marks .now) (start .from .now) (start .event .now) in
     table-fills M (start .m .k) lent (first .before .before .before .before .before .room-of .ensures)
     (entries-done profileLayout (profileValue 8 M) (c .before .loop .inv .2) (first .by-events .ensures) (c .before .before .if1 .left)
     (c .loop-test .left))

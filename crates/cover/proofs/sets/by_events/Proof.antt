@@ -9,28 +9,31 @@ use Rattle.laws.specs.Tables.{WordValue, byEvents}
 use Rattle.laws.specs.Profiles.{nextSet, setValue}
 use Rattle.laws.specs.Answers.{SetSlices, setSlices}
 use Rattle.cover.specs.Values.{asked}
-use Rattle.cover.specs.Memory.{sets, setsIn, going}
+use Rattle.cover.specs.Memory.{setMemory, setsIn, going}
 use Rattle.cover.proofs.Filling.{ByEvents, still-lent, events-begin, events-cut, events-next, events-done}
 use Rattle.cover.proofs.SetTable.{setLayout, SameLengths}
 use Rattle.cover.proofs.sets.by_events.Statement.{statement}
 use Rattle.cover.proofs.sets.by_events.Tie as tie
 
 abbrev Inv-loop : tie.InvT-loop
-Inv-loop m arrows masks₀ from₀ event₀ count room set before n₀ a₀ masks from event n a =
+Inv-loop m arrows masks₀ from₀ event₀ count room set origin n₀ a₀ masks from event n a =
     let Val : WordValue ℕ = setValue 8 (machine 8 (asked m arrows)) in
-    let old : SetSlices = sets masks₀ from₀ event₀ in
-    let now : SetSlices = sets masks from event in
+    let old : SetSlices = setMemory masks₀ from₀ event₀ in
+    let now : SetSlices = setMemory masks from event in
     SameLengths old now
-    × ByEvents Val setSlices room before (some set) (m .k) (byEvents Val room before (some set) (m .k) 0 (going (setsIn old count))) old now n a
+    × ByEvents Val setSlices room origin (some set) (m .k)
+    (byEvents Val room origin (some set) (m .k) 0 (going (setsIn old count))) old now n a
 
 abbrev μ-loop : tie.MeasureT-loop
-μ-loop m arrows masks₀ from₀ event₀ count room set before n₀ a₀ masks from event n a = m .k - a
+μ-loop m arrows masks₀ from₀ event₀ count room set origin n₀ a₀ masks from event n a = m .k - a
 
 loop-holds : tie.Need-loop-holds Inv-loop μ-loop
 loop-holds c = (search needs, events-begin setLayout _ _ _ (c .before .before .before .before .pre .1))
 
 after-requires : tie.Need-after-requires Inv-loop μ-loop
-after-requires c κs = (c .before .before .before .before .before .before .before .before .before .before .pre .0, c .before .before .before .if1 .taken)
+after-requires c κs =
+    let turn = c .before .before .before in
+    (turn .before .before .before .before .before .before .before .pre .0, turn .if1 .taken)
 
 cast-enter : tie.Need-cast-enter Inv-loop μ-loop
 cast-enter c = search needs
@@ -54,7 +57,8 @@ unfolding setValue nextSet
 returns c =
     let called = c .before .before .before .before .before .before .before in
     let turn = called .before .before .before .before .before in
-    events-cut setLayout _ (turn .before .before .loop .inv .1) (turn .if1 .taken) (called .before .after .ensures) (called .enter .ensures _)
+    events-cut setLayout _ (turn .before .before .loop .inv .1) (turn .if1 .taken) (called .before .after .ensures)
+    (called .enter .ensures _)
     (c .if2 .taken)
 
 add-a : tie.Need-add-a Inv-loop μ-loop
@@ -74,7 +78,8 @@ loop-again c =
         from = c .before .before .before .before .from .given ∙ lengths .from;
         event = c .before .before .event .given ∙ lengths .event;
       },
-      events-next setLayout _ (turn .before .before .loop .inv .1) (turn .if1 .taken) (called .before .after .ensures) (called .enter .ensures _)
+      events-next setLayout _ (turn .before .before .loop .inv .1) (turn .if1 .taken) (called .before .after .ensures)
+          (called .enter .ensures _)
           (c .if2 .left),
     )
 

@@ -8,7 +8,7 @@ use Rattle.laws.specs.Tables.{WordValue}
 use Rattle.laws.specs.Profiles.{setValue}
 use Rattle.laws.specs.Answers.{SetSlices, setSlices}
 use Rattle.cover.specs.Values.{asked}
-use Rattle.cover.specs.Memory.{sets, SetsLent}
+use Rattle.cover.specs.Memory.{setMemory, SetsLent}
 use Rattle.cover.proofs.Filling.{Since, goes, still-lent, entries-none, entries-cut, entries-next, entries-done}
 use Rattle.cover.proofs.SetTable.{read-at, setLayout, SameLengths, room-lent, table-fills}
 use Rattle.cover.proofs.sets.close.Statement.{statement}
@@ -17,8 +17,8 @@ use Rattle.cover.proofs.sets.close.Tie as tie
 abbrev Inv-loop : tie.InvT-loop
 Inv-loop m arrows masks₀ from₀ event₀ room n₀ i₀ masks from event n i =
     let Val : WordValue ℕ = setValue 8 (machine 8 (asked m arrows)) in
-    let begun : SetSlices = sets masks₀ from₀ event₀ in
-    let now : SetSlices = sets masks from event in
+    let begun : SetSlices = setMemory masks₀ from₀ event₀ in
+    let now : SetSlices = setMemory masks from event in
     SameLengths begun now
     × SetsLent now n room
     × Since Val setSlices (m .k) room begun now n₀ n i
@@ -47,7 +47,7 @@ returns c =
     let room = first .before .before .before .before in
     let start = room .before .before .before .before .before .before .before .before in
     let m : Model = asked (start .args .m) (start .args .arrows .now) in
-    let lent : SetSlices = sets (start .args .masks .now) (start .args .from .now) (start .args .event .now) in
+    let lent : SetSlices = setMemory (start .args .masks .now) (start .args .from .now) (start .args .event .now) in
     table-fills m (start .pre) lent (room .room-of .ensures)
     (entries-none setLayout (setValue 8 (machine 8 m)) (m .k) (first .enter .ensures (machine 8 m)) (c .if1 .taken))
 
@@ -99,9 +99,10 @@ returns-2 c =
     let room = first .before .before .before .before in
     let start = room .before .before .before .before .before .before .before .before in
     let m : Model = asked (start .args .m) (start .args .arrows .now) in
-    let lent : SetSlices = sets (start .args .masks .now) (start .args .from .now) (start .args .event .now) in
+    let lent : SetSlices = setMemory (start .args .masks .now) (start .args .from .now) (start .args .event .now) in
     table-fills m (start .pre) lent (room .room-of .ensures)
-    (entries-cut setLayout (setValue 8 (machine 8 m)) (turn .before .loop .inv .2) (first .enter .ensures (machine 8 m)) (turn .before .before .if1 .left)
+    (entries-cut setLayout (setValue 8 (machine 8 m)) (turn .before .loop .inv .2) (first .enter .ensures (machine 8 m))
+    (turn .before .before .if1 .left)
     (turn .loop-test .taken) _ (read-at _ _ _ (turn .loop-test .taken)) refl (called .by-events .ensures) (c .if2 .taken))
 
 add-i : tie.Need-add-i Inv-loop μ-loop
@@ -140,9 +141,10 @@ returns-3 c =
     let room = first .before .before .before .before in
     let start = room .before .before .before .before .before .before .before .before in
     let m : Model = asked (start .args .m) (start .args .arrows .now) in
-    let lent : SetSlices = sets (start .args .masks .now) (start .args .from .now) (start .args .event .now) in
+    let lent : SetSlices = setMemory (start .args .masks .now) (start .args .from .now) (start .args .event .now) in
     table-fills m (start .pre) lent (room .room-of .ensures)
-    (entries-done setLayout (setValue 8 (machine 8 m)) (c .before .loop .inv .2) (first .enter .ensures (machine 8 m)) (c .before .before .if1 .left)
+    (entries-done setLayout (setValue 8 (machine 8 m)) (c .before .loop .inv .2) (first .enter .ensures (machine 8 m))
+    (c .before .before .if1 .left)
     (c .loop-test .left))
 
 pub close-spec : {M : Type 1} → statement M

@@ -25,11 +25,11 @@ abbrev count-below : ℕ → In 2 kinds.ps
 count-below t = and 2 kinds.ps (falls 2 kinds.ps _<_ μ-count t) count.Pre
 
 module _ (t : ℕ) where
-  mul-before : lts.Need-mul-before (count-below t, count.Post) (count-at t) count.Post
-  mul-before c = search needs
+  mul-origin : lts.Need-mul-origin (count-below t, count.Post) (count-at t) count.Post
+  mul-origin c = search needs
 
-  shared-slice-read-before : lts.Need-shared-slice-read-before (count-below t, count.Post) (count-at t) count.Post
-  shared-slice-read-before c = search needs
+  shared-slice-read-origin : lts.Need-shared-slice-read-origin (count-below t, count.Post) (count-at t) count.Post
+  shared-slice-read-origin c = search needs
 
   shared-slice-read-if2 : lts.Need-shared-slice-read-if2 (count-below t, count.Post) (count-at t) count.Post
   shared-slice-read-if2 c = search needs
@@ -71,8 +71,8 @@ pub +count-spec : {M : Type 1} → statement M
     (count-below t, count.Post)
     (count-at t)
     count.Post
-    (mul-before t)
-    (shared-slice-read-before t)
+    (mul-origin t)
+    (shared-slice-read-origin t)
     (shared-slice-read-if2 t)
     (returns t)
     (returns-2 t)

@@ -68,11 +68,11 @@ abbrev write-below : ℕ → In 3 kinds.ps
 write-below t = and 3 kinds.ps (falls 3 kinds.ps _<_ μ-write t) write.Pre
 
 module _ (t : ℕ) where
-  mul-before : lts.Need-mul-before (write-below t, write.Post) (write-at t) write.Post
-  mul-before c = search needs
+  mul-origin : lts.Need-mul-origin (write-below t, write.Post) (write-at t) write.Post
+  mul-origin c = search needs
 
-  shared-slice-read-before : lts.Need-shared-slice-read-before (write-below t, write.Post) (write-at t) write.Post
-  shared-slice-read-before c = search needs
+  shared-slice-read-origin : lts.Need-shared-slice-read-origin (write-below t, write.Post) (write-at t) write.Post
+  shared-slice-read-origin c = search needs
 
   shared-slice-read-if2 : lts.Need-shared-slice-read-if2 (write-below t, write.Post) (write-at t) write.Post
   shared-slice-read-if2 c = search needs
@@ -154,8 +154,8 @@ pub +write-spec : {M : Type 1} → statement M
     (write-below t, write.Post)
     (write-at t)
     write.Post
-    (mul-before t)
-    (shared-slice-read-before t)
+    (mul-origin t)
+    (shared-slice-read-origin t)
     (shared-slice-read-if2 t)
     (returns t)
     (shared-slice-read-out t)
