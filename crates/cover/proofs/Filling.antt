@@ -1,6 +1,6 @@
 -- How a table is filled, whatever its values and slices: entering one entry, then what the events make of one value, then of every entry.
 -- A loop that fills stands between the slices as they were lent and a whole table, which what it has still to do leads to.
-use Prim.Native.Nat.{ℕ, zero, suc, _+_, _-_, _≤_, _<_}
+use Prim.Native.Nat.{ℕ, zero, suc, _+_, _-_, _^_, _≤_, _<_}
 use native.Mathlib.Nat.{sub-zero}
 use native.Mathlib.Numerals.{add-one}
 use native.Mathlib.Omega.{arith}
@@ -10,7 +10,10 @@ use mathlib.Core.Logic.{⊎-elim}
 use mathlib.Core.Option.{Option, some}
 use mathlib.Core.List.{List, [], _∷_, _++_}
 use lib.ListN.{length, getElem?}
-use lib.Dec.{ltb}
+use lib.Dec.{T, ltb}
+use mir.Syntax.{w64}
+use mir.Val.{Fits}
+use mir.Facts.{fits-below}
 use borrow.Author.Tests.{lt-ltb, le-ltb, ltb-true, ltb-false}
 use Rattle.laws.specs.Tables.{WordValue, Entry, Table, stored, enter, byEvents, byEntries}
 use Rattle.laws.proofs.Booleans.{same-test, either, never}
@@ -34,6 +37,14 @@ pub record Layout {Value Slices : Type 0} (write : List (Entry Value) → Slices
   -- there is room, and there still is after writing within it
   pub within : (l : Slices) (n room : ℕ) → Lent l n room → n ≤ room
   pub lent : (es : List (Entry Value)) (l : Slices) (n room : ℕ) → Lent l n room → length es ≤ room → Lent (write es l) (length es) room
+
+-- a turn of a loop that has come to one of n places in the room brings its end nearer
+pub nearer : (i : ℕ) {n room : ℕ} → i < n → n ≤ room → room - (i + 1) < room - i
+nearer i h l = omega arith
+
+-- and leaves its counter small
+pub counts-on : (i : ℕ) {n room limit : ℕ} → i < n → n ≤ room → room ≤ limit → T (ltb limit (2 ^ 64)) → Fits w64 (i + 1)
+counts-on i {limit = limit} h l limited small = fits-below {n = limit} small (omega arith)
 
 -- n entries, and the table is not cut
 abbrev pub filled : ℕ → Filled
@@ -211,8 +222,8 @@ module _ {Value Slices : Type 0} {write : List (Entry Value) → Slices → Slic
   -- the loop over entries begins where the first values were entered
   module _ (k : ℕ) {t : Table Value} {old begun : Slices} {first : Filled} (b : Fills write room t old begun first) where
     -- unless these cut the table, which is then the whole
-    pub entries-none : first .cut ≡ true → Fills write room (byEntries Val k room room 0 t) old begun first
-    entries-none = stopped b (entries-still Val k room room 0 t)
+    pub begin-cut : first .cut ≡ true → Fills write room (byEntries Val k room room 0 t) old begun first
+    begin-cut = stopped b (entries-still Val k room room 0 t)
 
     entries-begin : first .cut ≡ false → ByEntries Val write k room (byEntries Val k room room 0 t) old begun (first .count) 0
     entries-begin c = record { es = t .entries; stands = goes b; rest = rw (sub-zero, ← uncut b c); at-most = omega arith }
@@ -263,7 +274,7 @@ module _ {Value Slices : Type 0} {write : List (Entry Value) → Slices → Slic
         rw (← s .rest, entries-end Val k room (room - i) i (going (s .es)) none-left) (s .stands)
 
     -- or a turn cuts the table, which is then the whole
-    pub entries-cut : (h : i < n) {new : Slices} {v : Value} {answer : Filled} (e : Entry Value) → getElem? (read now n) i ≡ some e
+    pub entries-cut : i < n → {new : Slices} {v : Value} {answer : Filled} (e : Entry Value) → getElem? (read now n) i ≡ some e
         → v ≡ e .value → Fills write room (byEvents Val room i (some v) k 0 (going (read now n))) now new answer → answer .cut ≡ true
         → Fills write room (byEntries Val k room room 0 t) old new answer
     entries-cut h e at v-is f =

@@ -9,7 +9,7 @@ use Rattle.laws.specs.Profiles.{Profile, profileValue}
 use Rattle.laws.specs.Answers.{ProfileSlices, profileSlices}
 use Rattle.cover.specs.Values.{asked}
 use Rattle.cover.specs.Memory.{profileMemory, ProfilesLent}
-use Rattle.cover.proofs.Filling.{Since, goes, still-lent, entries-none, entries-cut, entries-next, entries-done}
+use Rattle.cover.proofs.Filling.{Since, nearer, counts-on, goes, still-lent, begin-cut, entries-cut, entries-next, entries-done}
 use Rattle.cover.proofs.ProfileTable.{read-at, profileLayout, SameLengths, room-lent, table-fills}
 use Rattle.cover.proofs.profiles.close.Statement.{statement}
 use Rattle.cover.proofs.profiles.close.Tie as tie
@@ -30,35 +30,37 @@ room-of-requires : tie.Need-room-of-requires Inv-loop μ-loop
 room-of-requires c κs = search needs
 
 by-events-requires : tie.Need-by-events-requires Inv-loop μ-loop
-by-events-requires c κs = (search needs, room-lent _ (c .before .before .before .before .room-of .ensures))
+by-events-requires c κs =
+    let room = c .before .before .before .before in
+    (room .before .before .before .before .before .before .before .before .before .before .pre, room-lent _ (room .room-of .ensures))
 
 same-length : tie.Need-same-length Inv-loop μ-loop
-same-length c = search needs
+same-length c = c .before .before .before .before .before .before .before .before .arrows .given
 
 same-length-2 : tie.Need-same-length-2 Inv-loop μ-loop
-same-length-2 c = search needs
+same-length-2 c = c .before .before .before .before .before .before .marks .given
 
 same-length-3 : tie.Need-same-length-3 Inv-loop μ-loop
-same-length-3 c = search needs
+same-length-3 c = c .before .before .before .before .from .given
 
 same-length-4 : tie.Need-same-length-4 Inv-loop μ-loop
-same-length-4 c = search needs
+same-length-4 c = c .before .before .event .given
 
 returns : tie.Need-returns Inv-loop μ-loop
 returns c =
     let first = c .before .before .before .before .before .before .before .before .before in
-    let asked-room = first .before .before .before .before .before in
-    let start = asked-room .before .before .before .before .before .before .before .before .before .before .args in
+    let room = first .before .before .before .before .before in
+    let start = room .before .before .before .before .before .before .before .before .before .before .args in
     let M : Machine ℕ = machine 8 (asked (start .m) (start .lent .now)) in
     let lent : ProfileSlices = profileMemory (start .arrows .now) (start .marks .now) (start .from .now) (start .event .now) in
-    table-fills M (start .m .k) lent (first .before .before .before .before .before .room-of .ensures)
-    (entries-none profileLayout (profileValue 8 M) (start .m .k) (first .by-events .ensures) (c .if1 .taken))
+    table-fills M (start .m .k) lent (room .room-of .ensures)
+    (begin-cut profileLayout (profileValue 8 M) (start .m .k) (first .by-events .ensures) (c .if1 .taken))
 
 loop-holds : tie.Need-loop-holds Inv-loop μ-loop
 loop-holds c =
     let first = c .before .before .before .before .before .before .before .before .before in
     let room = first .before .before .before .before .before in (
-      search needs,
+      record { arrows = refl; marks = refl; from = refl; event = refl },
       still-lent profileLayout (goes (first .by-events .ensures)) (room-lent _ (room .room-of .ensures)),
       record { on = λ old whole b. b },
     )
@@ -81,9 +83,8 @@ cast-by-events c = search needs
 by-events-requires-2 : tie.Need-by-events-requires-2 Inv-loop μ-loop
 by-events-requires-2 c κs =
     let at = c .before .before .before .before .before .before .before in
-    let first = at .before .before .before .before .before .before .before .before .before .before in
-    let start = first .before .before .before .before .before .before .before .before in
-    (start .before .before .before .before .before .before .before .pre, at .loop .inv .1)
+    let room = at .before .before .before .before .before .before .before .before .before .before .before .before .before .before .before in
+    (room .before .before .before .before .before .before .before .before .before .before .pre, at .loop .inv .1)
 
 same-length-5 : tie.Need-same-length-5 Inv-loop μ-loop
 same-length-5 c =
@@ -115,19 +116,26 @@ returns-2 c =
     let again = c .before .before .before .before .before .before .before .before .before in
     let turn = again .before .before .before .before .before .before .before in
     let first = turn .before .before .before .before .before .before .before .before .before .before .before in
-    let asked-room = first .before .before .before .before .before in
-    let start = asked-room .before .before .before .before .before .before .before .before .before .before .args in
+    let room = first .before .before .before .before .before in
+    let start = room .before .before .before .before .before .before .before .before .before .before .args in
     let M : Machine ℕ = machine 8 (asked (start .m) (start .lent .now)) in
     let lent : ProfileSlices = profileMemory (start .arrows .now) (start .marks .now) (start .from .now) (start .event .now) in
-    table-fills M (start .m .k) lent (first .before .before .before .before .before .room-of .ensures)
+    table-fills M (start .m .k) lent (room .room-of .ensures)
     (entries-cut profileLayout (profileValue 8 M) (turn .before .loop .inv .2) (first .by-events .ensures) (turn .before .before .if1 .left)
     (turn .loop-test .taken) _ (read-at _ _ _ (turn .loop-test .taken)) refl (again .by-events2 .ensures) (c .if2 .taken))
 
 add-i : tie.Need-add-i Inv-loop μ-loop
-add-i c = search needs
+add-i c =
+    let turn = c .before .before .before .before .before .before .before .before .before in
+    let at = turn .before .before .before .before .before .before .before .before .loop in
+    counts-on (at .i) (turn .before .before .before .before .before .before .before .loop-test .taken) (at .inv .1 .count-within)
+    (at .inv .1 .limit) tt
 
 loop-less : tie.Need-loop-less Inv-loop μ-loop
-loop-less c = search needs
+loop-less c =
+    let turn = c .before .before .before .before .before .before .before .before .before in
+    let at = turn .before .before .before .before .before .before .before .before .loop in
+    nearer (at .i) (turn .before .before .before .before .before .before .before .loop-test .taken) (at .inv .1 .count-within)
 
 loop-again : tie.Need-loop-again Inv-loop μ-loop
 loop-again c =
@@ -146,25 +154,26 @@ loop-again c =
     )
 
 same-length-9 : tie.Need-same-length-9 Inv-loop μ-loop
-same-length-9 c = search needs
+same-length-9 c =
+    c .before .loop .inv .0 .arrows ∙ c .before .before .before .before .before .before .before .before .before .before .arrows .given
 
 same-length-10 : tie.Need-same-length-10 Inv-loop μ-loop
-same-length-10 c = search needs
+same-length-10 c = c .before .loop .inv .0 .marks ∙ c .before .before .before .before .before .before .before .before .marks .given
 
 same-length-11 : tie.Need-same-length-11 Inv-loop μ-loop
-same-length-11 c = search needs
+same-length-11 c = c .before .loop .inv .0 .from ∙ c .before .before .before .before .before .before .from .given
 
 same-length-12 : tie.Need-same-length-12 Inv-loop μ-loop
-same-length-12 c = search needs
+same-length-12 c = c .before .loop .inv .0 .event ∙ c .before .before .before .before .event .given
 
 returns-3 : tie.Need-returns-3 Inv-loop μ-loop
 returns-3 c =
     let first = c .before .before .before .before .before .before .before .before .before .before .before in
-    let asked-room = first .before .before .before .before .before in
-    let start = asked-room .before .before .before .before .before .before .before .before .before .before .args in
+    let room = first .before .before .before .before .before in
+    let start = room .before .before .before .before .before .before .before .before .before .before .args in
     let M : Machine ℕ = machine 8 (asked (start .m) (start .lent .now)) in
     let lent : ProfileSlices = profileMemory (start .arrows .now) (start .marks .now) (start .from .now) (start .event .now) in
-    table-fills M (start .m .k) lent (first .before .before .before .before .before .room-of .ensures)
+    table-fills M (start .m .k) lent (room .room-of .ensures)
     (entries-done profileLayout (profileValue 8 M) (c .before .loop .inv .2) (first .by-events .ensures) (c .before .before .if1 .left)
     (c .loop-test .left))
 

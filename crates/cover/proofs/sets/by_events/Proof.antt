@@ -44,13 +44,19 @@ enter-requires c κs =
     still-lent setLayout (at .loop .inv .1 .stands) (at .before .before .before .before .before .pre .1)
 
 same-length : tie.Need-same-length Inv-loop μ-loop
-same-length c = search needs
+same-length c =
+    let at = c .before .before .before .before .before .before .before .before .before .before .before .before .before .before in
+    c .before .before .before .before .before .before .masks .given ∙ at .loop .inv .0 .masks
 
 same-length-2 : tie.Need-same-length-2 Inv-loop μ-loop
-same-length-2 c = search needs
+same-length-2 c =
+    let at = c .before .before .before .before .before .before .before .before .before .before .before .before .before .before in
+    c .before .before .before .before .from .given ∙ at .loop .inv .0 .from
 
 same-length-3 : tie.Need-same-length-3 Inv-loop μ-loop
-same-length-3 c = search needs
+same-length-3 c =
+    let at = c .before .before .before .before .before .before .before .before .before .before .before .before .before .before in
+    c .before .before .event .given ∙ at .loop .inv .0 .event
 
 returns : tie.Need-returns Inv-loop μ-loop
 unfolding setValue nextSet

@@ -9,7 +9,7 @@ use Rattle.laws.specs.Profiles.{setValue}
 use Rattle.laws.specs.Answers.{SetSlices, setSlices}
 use Rattle.cover.specs.Values.{asked}
 use Rattle.cover.specs.Memory.{setMemory, SetsLent}
-use Rattle.cover.proofs.Filling.{Since, goes, still-lent, entries-none, entries-cut, entries-next, entries-done}
+use Rattle.cover.proofs.Filling.{Since, nearer, counts-on, goes, still-lent, begin-cut, entries-cut, entries-next, entries-done}
 use Rattle.cover.proofs.SetTable.{read-at, setLayout, SameLengths, room-lent, table-fills}
 use Rattle.cover.proofs.sets.close.Statement.{statement}
 use Rattle.cover.proofs.sets.close.Tie as tie
@@ -33,13 +33,13 @@ enter-requires : tie.Need-enter-requires Inv-loop μ-loop
 enter-requires c κs = room-lent _ (c .before .before .before .room-of .ensures)
 
 same-length : tie.Need-same-length Inv-loop μ-loop
-same-length c = search needs
+same-length c = c .before .before .before .before .before .before .masks .given
 
 same-length-2 : tie.Need-same-length-2 Inv-loop μ-loop
-same-length-2 c = search needs
+same-length-2 c = c .before .before .before .before .from .given
 
 same-length-3 : tie.Need-same-length-3 Inv-loop μ-loop
-same-length-3 c = search needs
+same-length-3 c = c .before .before .event .given
 
 returns : tie.Need-returns Inv-loop μ-loop
 returns c =
@@ -49,7 +49,7 @@ returns c =
     let m : Model = asked (start .args .m) (start .args .arrows .now) in
     let lent : SetSlices = setMemory (start .args .masks .now) (start .args .from .now) (start .args .event .now) in
     table-fills m (start .pre) lent (room .room-of .ensures)
-    (entries-none setLayout (setValue 8 (machine 8 m)) (m .k) (first .enter .ensures (machine 8 m)) (c .if1 .taken))
+    (begin-cut setLayout _ (m .k) (first .enter .ensures (machine 8 m)) (c .if1 .taken))
 
 loop-holds : tie.Need-loop-holds Inv-loop μ-loop
 loop-holds c =
@@ -101,15 +101,20 @@ returns-2 c =
     let m : Model = asked (start .args .m) (start .args .arrows .now) in
     let lent : SetSlices = setMemory (start .args .masks .now) (start .args .from .now) (start .args .event .now) in
     table-fills m (start .pre) lent (room .room-of .ensures)
-    (entries-cut setLayout (setValue 8 (machine 8 m)) (turn .before .loop .inv .2) (first .enter .ensures (machine 8 m))
-    (turn .before .before .if1 .left)
+    (entries-cut setLayout _ (turn .before .loop .inv .2) (first .enter .ensures (machine 8 m)) (turn .before .before .if1 .left)
     (turn .loop-test .taken) _ (read-at _ _ _ (turn .loop-test .taken)) refl (called .by-events .ensures) (c .if2 .taken))
 
 add-i : tie.Need-add-i Inv-loop μ-loop
-add-i c = search needs
+add-i c =
+    let turn = c .before .before .before .before .before .before .before in
+    let at = turn .before .before .before .before .before .before .loop in
+    counts-on (at .i) (turn .before .before .before .before .before .loop-test .taken) (at .inv .1 .count-within) (at .inv .1 .limit) tt
 
 loop-less : tie.Need-loop-less Inv-loop μ-loop
-loop-less c = search needs
+loop-less c =
+    let turn = c .before .before .before .before .before .before .before in
+    let at = turn .before .before .before .before .before .before .loop in
+    nearer (at .i) (turn .before .before .before .before .before .loop-test .taken) (at .inv .1 .count-within)
 
 loop-again : tie.Need-loop-again Inv-loop μ-loop
 loop-again c =
@@ -127,13 +132,13 @@ loop-again c =
     )
 
 same-length-7 : tie.Need-same-length-7 Inv-loop μ-loop
-same-length-7 c = search needs
+same-length-7 c = c .before .loop .inv .0 .masks ∙ c .before .before .before .before .before .before .before .before .masks .given
 
 same-length-8 : tie.Need-same-length-8 Inv-loop μ-loop
-same-length-8 c = search needs
+same-length-8 c = c .before .loop .inv .0 .from ∙ c .before .before .before .before .before .before .from .given
 
 same-length-9 : tie.Need-same-length-9 Inv-loop μ-loop
-same-length-9 c = search needs
+same-length-9 c = c .before .loop .inv .0 .event ∙ c .before .before .before .before .event .given
 
 returns-3 : tie.Need-returns-3 Inv-loop μ-loop
 returns-3 c =
@@ -143,8 +148,7 @@ returns-3 c =
     let m : Model = asked (start .args .m) (start .args .arrows .now) in
     let lent : SetSlices = setMemory (start .args .masks .now) (start .args .from .now) (start .args .event .now) in
     table-fills m (start .pre) lent (room .room-of .ensures)
-    (entries-done setLayout (setValue 8 (machine 8 m)) (c .before .loop .inv .2) (first .enter .ensures (machine 8 m))
-    (c .before .before .if1 .left)
+    (entries-done setLayout _ (c .before .loop .inv .2) (first .enter .ensures (machine 8 m)) (c .before .before .if1 .left)
     (c .loop-test .left))
 
 pub close-spec : {M : Type 1} → statement M
