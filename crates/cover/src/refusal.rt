@@ -1,7 +1,6 @@
 // What is refused of a model: 1, 2 and 3, the first that applies.
 ghost use Prim.Native.Nat.{_≤_};
 ghost use mathlib.Core.Path.{_≡_};
-ghost use mathlib.Core.Bool.{_||_};
 ghost use lib.ListN.{length, take};
 ghost use Rattle.laws.specs.Bits.{someOf};
 ghost use Rattle.laws.specs.Model.{eight};

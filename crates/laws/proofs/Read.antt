@@ -1,7 +1,6 @@
 -- Of the slice of arrows only the first k numbers are read: with k there, the machine of a model and what is refused of it depend on no
 -- other, and so does every answer.
 use Prim.Native.Nat.{ℕ, _<_, _≤_}
-use native.Mathlib.Omega.{arith}
 use mathlib.Core.Path.{_≡_, refl, sym, ap, _∙_, subst, fun-ext}
 use mathlib.Core.Bool.{Bool, true, false, _&&_}
 use mathlib.Core.List.{List}
