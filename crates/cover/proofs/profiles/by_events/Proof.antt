@@ -30,7 +30,7 @@ loop-holds : tie.Need-loop-holds Inv-loop μ-loop
 loop-holds c = (search needs, events-begin profileLayout _ _ _ (c .before .before .before .before .before .pre .1))
 
 profile-of-requires : tie.Need-profile-of-requires Inv-loop μ-loop
-profile-of-requires c κs = (c .before .before .before .before .before .before .before .before .pre .0, c .if1 .taken)
+profile-of-requires c κs = (c .before .before .before .before .before .before .before .before .pre .0, search needs)
 
 next-requires : tie.Need-next-requires Inv-loop μ-loop
 next-requires c κs = search needs

@@ -33,7 +33,7 @@ loop-holds c = (search needs, events-begin setLayout _ _ _ (c .before .before .b
 after-requires : tie.Need-after-requires Inv-loop μ-loop
 after-requires c κs =
     let turn = c .before .before .before in
-    (turn .before .before .before .before .before .before .before .pre .0, turn .if1 .taken)
+    (turn .before .before .before .before .before .before .before .pre .0, search needs)
 
 cast-enter : tie.Need-cast-enter Inv-loop μ-loop
 cast-enter c = search needs
