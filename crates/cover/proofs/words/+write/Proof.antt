@@ -4,8 +4,8 @@ use Prim.Native.Nat.{ℕ, suc, _-_, _<_}
 use native.Mathlib.Omega.{arith}
 use mathlib.Core.Path.{_≡_, refl, sym, ap, _∙_}
 use mathlib.Core.List.{List, [], _∷_, _++_}
-use lib.ListN.{length, getD, take, drop, set, length-set, drop-of-length-le}
-use lib.Seq.{length-take-le, drop-cons, getD-set-same}
+use lib.ListN.{length, getD, take, drop, set, length-take, length-set, drop-of-length-le}
+use lib.Seq.{drop-cons, getD-set-same}
 use borrow.Author.Needs.{needs}
 use borrow.Fn.Kinds.{In}
 use borrow.Fn.PlainCycle.{Measures, is, falls, and}
@@ -47,11 +47,6 @@ module _ {from event : List ℕ} (h : Linked from event) (i : ℕ) (l : i < leng
   module _ (f : getD from i 0 ≡ noEntry → ⊥) where
     abbrev last : ℕ
     last = length out - 1
-
-    part-left : length (take last (set out last (getD event i 0))) ≡ length (wordIn from event (getD from i 0))
-    part-left =
-        let longer = word-longer h i l f in
-        length-take-le last (set out last (getD event i 0)) (simp length-set (omega arith)) ∙ omega arith
 
     letter-more : (part : List ℕ) → part ≡ wordIn from event (getD from i 0)
         → part ++ drop last (set out last (getD event i 0)) ≡ wordIn from event i
@@ -119,11 +114,7 @@ module _ (t : ℕ) where
   slice-relend-prefix-write c = simp length-set (omega arith)
 
   slice-aggregate-write : lts.Need-slice-aggregate-write (write-below t, write.Post) (write-at t) write.Post
-  slice-aggregate-write c =
-      let start = c .before .before .before .before .before .before .before in
-      let ((l, h), e) = start .pre .1 in
-      let f = c .before .before .if1 .left in
-      omega (arith, part-left h _ l (start .args .out .now) e f, word-longer h _ l f)
+  slice-aggregate-write c = simp (length-take, length-set) (omega arith)
 
   write-requires : lts.Need-write-requires (write-below t, write.Post) (write-at t) write.Post
   write-requires c κs =
@@ -131,7 +122,7 @@ module _ (t : ℕ) where
       let ((l, h), e) = start .pre .1 in
       let f = c .before .before .if1 .left in
       let m = from-below h _ l f in
-      (omega arith, ((omega arith, h), part-left h _ l (start .args .out .now) e f))
+      (omega arith, ((omega arith, h), simp (length-take, length-set) (omega (arith, word-longer h _ l f))))
 
   returns-3 : lts.Need-returns-3 (write-below t, write.Post) (write-at t) write.Post
   returns-3 c =
