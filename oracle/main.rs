@@ -2,6 +2,7 @@
 
 mod bench;
 mod course;
+mod editor;
 mod machine;
 mod model;
 mod opposite;
@@ -27,6 +28,7 @@ fn main() {
     std::process::exit(match words[..] {
         ["self-test"] => selftest::run(),
         ["verdict-c"] => print_verdict(&model::named("C")),
+        ["editor"] => editor::print(),
         ["bench", ref program @ ..] if !program.is_empty() => bench::run(program),
         ["vectors", folder] => vectors::write(Path::new(folder)),
         _ => usage(),
@@ -34,7 +36,7 @@ fn main() {
 }
 
 fn usage() -> i32 {
-    eprintln!("usage: oracle self-test | verdict-c | vectors FOLDER | bench PROGRAM...");
+    eprintln!("usage: oracle self-test | verdict-c | editor | vectors FOLDER | bench PROGRAM...");
     2
 }
 

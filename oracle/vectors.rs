@@ -1,6 +1,8 @@
-//! The stored cases for the library: models with every slice in turn too short, just right and too long, and what must be printed of them.
+//! The stored cases for the library: models with every slice in turn too short, just right and too long, courses, and what must be printed
+//! of them.
 
-use crate::model::{bit, hand_worked, named, Model};
+use crate::course::{accepts, Course};
+use crate::model::{bit, hand_worked, named, Model, Verdict};
 use crate::random::Random;
 use crate::tables::{Entry, Tables};
 use std::fs;
@@ -11,21 +13,33 @@ struct Case {
     n: u64,
     k: u64,
     model: Model,
-    runs: Runs,
+    asked: Asked,
 }
 
-/// Which runs a stored model asks for: all, one with memory enough, or one with slices longer than 16 bits can count.
+/// What is asked of a stored model: all runs, one with memory enough, one with slices longer than 16 bits can count, or judging courses.
+#[derive(Clone, PartialEq)]
+enum Asked {
+    All,
+    Once,
+    Long,
+    Courses(Vec<Course>),
+}
+
+/// Which call is run.
 #[derive(Clone, Copy, PartialEq)]
-enum Runs {
-    All = 0,
-    Once = 1,
-    Long = 2,
+enum Call {
+    Close,
+    Verdict,
 }
 
 const MOST_ARROWS: usize = 17;
-const SLICES: usize = 7;
-const WHOLE: [usize; SLICES] = [260, 260, 260, 2_052, 2_052, 2_052, 2_052];
+const MOST_LETTERS: usize = 40;
+/// Three for sets, four for profiles, and the word memory.
+const SLICES: usize = 8;
+const WORDS: usize = 7;
+const WHOLE: [usize; SLICES] = [260, 260, 260, 2_052, 2_052, 2_052, 2_052, 2_308];
 const LONGEST: usize = 65_537;
+const MANY: usize = 600;
 
 /// Writes the cases to `stdin` and what the library must print of them to `stdout`.
 pub fn write(folder: &Path) -> i32 {
@@ -57,14 +71,25 @@ fn stored(case: &Case) -> Vec<u8> {
         let arrows = case.model.arrows.get(event).copied().unwrap_or(0);
         bytes.extend(arrows.to_le_bytes());
     }
-    bytes.push(case.runs as u8);
+    match &case.asked {
+        Asked::All => bytes.push(0),
+        Asked::Once => bytes.push(1),
+        Asked::Long => bytes.push(2),
+        Asked::Courses(courses) => {
+            bytes.extend([3, courses.len() as u8]);
+            for (u, v) in courses {
+                bytes.extend([u.len() as u8, v.len() as u8]);
+                bytes.extend(u.iter().chain(v));
+            }
+        }
+    }
     bytes
 }
 
 /// The same model many times, each to be closed once, and the line that the library must print for each.
 pub fn repeated(model: &Model, times: usize) -> (Vec<u8>, String) {
     let case = Case {
-        runs: Runs::Once,
+        asked: Asked::Once,
         ..plain(model.clone())
     };
     (stored(&case).repeat(times), lines(&case)[0].clone())
@@ -75,7 +100,7 @@ struct Memory {
     slices: [Vec<u64>; SLICES],
 }
 
-const WIDTHS: [u32; SLICES] = [8, 16, 8, 64, 64, 16, 8];
+const WIDTHS: [u32; SLICES] = [8, 16, 8, 64, 64, 16, 8, 8];
 
 impl Memory {
     /// With seed 0 all zeros, else another number in nearly every place.
@@ -115,37 +140,75 @@ fn noise(tone: u64, place: u64, width: u32) -> u64 {
     }
 }
 
+/// The verdict is 0 for none, 1 for "covered", 2 for "uncovered".
+#[derive(Default)]
 struct Seen {
     number: u8,
     sets: usize,
     profiles: usize,
+    verdict: u8,
+    u: usize,
+    v: usize,
     sum: u64,
 }
 
-fn run(case: &Case, whole: [usize; SLICES], lengths: impl Fn(usize) -> usize, seed: u64) -> Seen {
+type Lengths = [usize; SLICES];
+
+/// One run: of each slice in memory, which is filled by the seed, as much is lent as `lengths` says.
+fn run(case: &Case, call: Call, whole: Lengths, lengths: Lengths, seed: u64) -> Seen {
     let mut memory = Memory::filled(whole, seed);
-    let room =
-        |slices: std::ops::Range<usize>| slices.map(|slice| lengths(slice).min(whole[slice])).min();
-    let (mut number, mut sets, mut profiles) = (refusal(case), 0, 0);
-    if number == 0 {
-        let tables = Tables::close(&case.model, room(0..3), room(3..SLICES));
-        number = tables.refusal();
-        sets = tables.sets.entries.len();
-        profiles = tables.profiles.entries.len();
+    let lent = |slice: usize| lengths[slice].min(whole[slice]);
+    let room = |slices: std::ops::Range<usize>| slices.map(lent).min();
+    let mut seen = Seen {
+        number: refusal(case),
+        ..Seen::default()
+    };
+    if seen.number == 0 {
+        let tables = Tables::close(&case.model, room(0..3), room(3..WORDS));
+        seen.number = tables.refusal();
+        seen.sets = tables.sets.entries.len();
+        seen.profiles = tables.profiles.entries.len();
         memory.keep(0, &tables.sets.entries, |&set| vec![u64::from(set)]);
         memory.keep(3, &tables.profiles.entries, |profile| {
             vec![profile.arrows(), profile.marks()]
         });
+        if call == Call::Verdict {
+            seen.judge(tables.verdict(), lent(WORDS), &mut memory.slices[WORDS]);
+        }
     }
-    let mut sum = mix(mix(mix(0, number.into()), sets as u64), profiles as u64);
-    for value in memory.slices.iter().flatten() {
-        sum = mix(sum, *value);
+    let counts = [seen.number.into(), seen.sets as u64, seen.profiles as u64];
+    let verdict = [seen.verdict.into(), seen.u as u64, seen.v as u64];
+    let answer = counts.into_iter().chain(verdict);
+    seen.sum = answer.fold(0, mix);
+    for (slice, width) in memory.slices.iter().zip(WIDTHS) {
+        let add = if width == 64 { mix } else { mix_part };
+        seen.sum = slice.iter().fold(seen.sum, |sum, value| add(sum, *value));
     }
-    Seen {
-        number,
-        sets,
-        profiles,
-        sum,
+    seen
+}
+
+impl Seen {
+    /// u and then v go to the word memory if both fit into what is lent of it.
+    fn judge(&mut self, verdict: Option<Verdict>, lent: usize, words: &mut [u64]) {
+        match verdict {
+            None => {}
+            Some(Verdict::Covered) => self.verdict = 1,
+            Some(Verdict::Uncovered((u, v))) if u.len() + v.len() <= lent => {
+                self.verdict = 2;
+                self.u = u.len();
+                self.v = v.len();
+                for (place, letter) in words.iter_mut().zip(u.iter().chain(&v)) {
+                    *place = u64::from(*letter);
+                }
+            }
+            Some(Verdict::Uncovered(_)) => self.number = 6,
+        }
+    }
+
+    fn line(&self) -> String {
+        let counts = format!("{} {} {}", self.number, self.sets, self.profiles);
+        let verdict = format!("{} {} {}", self.verdict, self.u, self.v);
+        format!("{} {} {}", counts, verdict, self.sum)
     }
 }
 
@@ -158,46 +221,67 @@ fn refusal(case: &Case) -> u8 {
     model.refusal()
 }
 
+/// Sixteen bits go into the sum.
+fn mix_part(sum: u64, x: u64) -> u64 {
+    (sum * 65_599 + (x & 0xFFFF)) % 4_294_967_291
+}
+
 /// Sixteen bits at a time, the highest first.
 fn mix(sum: u64, x: u64) -> u64 {
     let parts = [x >> 48, x >> 32, x >> 16, x];
-    let add = |sum: u64, part: &u64| (sum * 65_599 + (part & 0xFFFF)) % 4_294_967_291;
-    parts.iter().fold(sum, add)
+    parts.into_iter().fold(sum, mix_part)
 }
 
 fn lines(case: &Case) -> Vec<String> {
-    let line = |seen: &Seen| {
-        let counts = format!("{} {} {}", seen.number, seen.sets, seen.profiles);
-        vec![format!("{} {}", counts, seen.sum)]
+    match &case.asked {
+        Asked::Courses(courses) => vec![judged_line(case, courses)],
+        Asked::Once => vec![run(case, Call::Close, WHOLE, WHOLE, 1).line()],
+        Asked::Long => [Call::Close, Call::Verdict]
+            .map(|call| run(case, call, [LONGEST; SLICES], [LONGEST; SLICES], 6).line())
+            .into(),
+        Asked::All => [(Call::Close, WORDS), (Call::Verdict, SLICES)]
+            .iter()
+            .flat_map(|&(call, slices)| room_lines(case, call, slices))
+            .collect(),
+    }
+}
+
+/// With memory enough, then the first so many slices each alone too short, just right and too long, then all of different lengths. Where
+/// the model itself is refused no slice is tried alone, and for the verdict on very many profiles only the word memory.
+fn room_lines(case: &Case, call: Call, slices: usize) -> Vec<String> {
+    let full = run(case, call, WHOLE, WHOLE, 1);
+    let first = match full.number {
+        1..=3 => slices,
+        _ if call == Call::Verdict && full.profiles > MANY => WORDS,
+        _ => 0,
     };
-    if case.runs == Runs::Long {
-        return line(&run(case, [LONGEST; SLICES], |_| LONGEST, 6));
-    }
-    let seen = run(case, WHOLE, |slice| WHOLE[slice], 1);
-    let mut lines = line(&seen);
-    if case.runs == Runs::All {
-        lines.extend((0..SLICES).map(|short| short_line(case, short, &seen)));
-        lines.push(different_line(case, &seen));
-    }
+    let mut lines = vec![full.line()];
+    lines.extend((first..slices).map(|short| short_line(case, call, short, &full)));
+    lines.push(different_line(case, call, &full));
     lines
 }
 
 /// One slice short: no room, room for one, one too few, just enough (over zeros), and one more.
-fn short_line(case: &Case, short: usize, full: &Seen) -> String {
-    let need = if short < 3 { full.sets } else { full.profiles };
+fn short_line(case: &Case, call: Call, short: usize, full: &Seen) -> String {
+    let need = match short {
+        0..=2 => full.sets,
+        WORDS => full.u + full.v,
+        _ => full.profiles,
+    };
     let rooms = [0, 1, need.saturating_sub(1), need, need + 1];
     let seeds = [2, 3, 4, 0, 1];
     let runs = rooms.iter().zip(seeds).map(|(&room, seed)| {
-        let length = |slice| if slice == short { room } else { WHOLE[slice] };
-        run(case, WHOLE, length, seed)
+        let mut lengths = WHOLE;
+        lengths[short] = room;
+        run(case, call, WHOLE, lengths, seed)
     });
     let runs: Vec<Seen> = runs.collect();
     let sum = runs.iter().fold(0, |sum, seen| mix(sum, seen.sum));
     format!("{}{}", numbers(&runs), sum)
 }
 
-/// All slices of different lengths: just enough, too few profiles, and too few of both.
-fn different_line(case: &Case, full: &Seen) -> String {
+/// All slices of different lengths: just enough, one profile too few, and one set too few as well.
+fn different_line(case: &Case, call: Call, full: &Seen) -> String {
     let (sets, profiles) = (full.sets, full.profiles);
     let fewer = profiles.saturating_sub(1);
     let tried = [
@@ -205,21 +289,33 @@ fn different_line(case: &Case, full: &Seen) -> String {
         (sets, fewer, 5, 8),
         (sets.saturating_sub(1), fewer, 10, 9),
     ];
-    let runs: Vec<Seen> = tried
-        .into_iter()
-        .map(|(sets, profiles, turn, seed)| {
-            let length = |slice: usize| {
-                if slice < 3 {
-                    sets + (turn + slice) % 3
-                } else {
-                    profiles + (turn + slice - 3) % 4
-                }
-            };
-            run(case, WHOLE, length, seed)
-        })
-        .collect();
+    let runs = tried.map(|(sets, profiles, turn, seed)| {
+        let length = |slice: usize| match slice {
+            0..=2 => sets + (turn + slice) % 3,
+            WORDS => full.u + full.v,
+            _ => profiles + (turn + slice - 3) % 4,
+        };
+        run(case, call, WHOLE, std::array::from_fn(length), seed)
+    });
     let sum = mix(mix(runs[0].sum, runs[1].sum), runs[2].sum);
     format!("{}{}", numbers(&runs), sum)
+}
+
+/// For each course 100 if it is accepted, 101 if it is not, or the number of the refusal.
+fn judged_line(case: &Case, courses: &[Course]) -> String {
+    let answers = courses.iter().map(|(u, v)| judged(case, u, v).to_string());
+    answers.collect::<Vec<String>>().join(" ")
+}
+
+fn judged(case: &Case, u: &[u8], v: &[u8]) -> u8 {
+    let unknown = |&letter: &u8| u64::from(letter) >= case.k;
+    match refusal(case) {
+        0 if v.is_empty() => 10,
+        0 if u.iter().chain(v).any(unknown) => 9,
+        0 if accepts(&case.model.machine(), u, v) => 100,
+        0 => 101,
+        number => number,
+    }
 }
 
 fn numbers(runs: &[Seen]) -> String {
@@ -233,7 +329,7 @@ fn plain(model: Model) -> Case {
         n: model.n as u64,
         k: model.k as u64,
         model,
-        runs: Runs::All,
+        asked: Asked::All,
     }
 }
 
@@ -253,7 +349,7 @@ fn cases() -> Vec<Case> {
     for _ in 0..40 {
         let model = random.model_up_to(8, 16);
         // A model with very many profiles costs as much as hundreds of others.
-        if Tables::close(&model, None, Some(600)).refusal() == 0 {
+        if Tables::close(&model, None, Some(MANY)).refusal() == 0 {
             cases.push(plain(model));
         }
     }
@@ -264,11 +360,99 @@ fn cases() -> Vec<Case> {
             random.model_up_to(8, 16)
         };
         let case = damaged(&mut random, model);
-        if refusal(&case) != 0 || Tables::close(&case.model, None, Some(600)).refusal() == 0 {
+        if refusal(&case) != 0 || Tables::close(&case.model, None, Some(MANY)).refusal() == 0 {
             cases.push(case);
         }
     }
+    cases.extend(courses());
     cases
+}
+
+/// Short courses of the hand-worked models, all of them, then what is refused, then random models with courses of up to 40 letters.
+fn courses() -> Vec<Case> {
+    let short = |k: usize| {
+        let mut courses = Vec::new();
+        for v in words_up_to(k, 3).into_iter().skip(1) {
+            courses.extend(words_up_to(k, 3).into_iter().map(|u| (u, v.clone())));
+        }
+        courses
+    };
+    let mut cases: Vec<Case> = hand_worked()
+        .into_iter()
+        .map(|row| judging(plain(row.model.clone()), short(row.model.k)))
+        .collect();
+    for case in edges().into_iter().chain(named_missing()) {
+        let k = case.k.clamp(1, 255) as u8;
+        cases.push(judging(case, refused_courses(k)));
+    }
+    let mut random = Random::new(5);
+    for round in 0..300 {
+        let model = if round % 3 == 0 {
+            random.model_up_to(8, 16)
+        } else {
+            random.model()
+        };
+        let lengths = [1, 3, 8, 20, MOST_LETTERS];
+        let courses = (0..40).map(|i| random.course(model.k, lengths[i % 5]));
+        let courses = courses.collect();
+        cases.push(judging(plain(model), courses));
+    }
+    cases.extend((0..60).map(|_| {
+        let model = random.model_up_to(8, 16);
+        let courses = (0..10).map(|_| random.course(model.k + 1, 6)).collect();
+        judging(damaged(&mut random, model), courses)
+    }));
+    cases
+}
+
+fn judging(case: Case, courses: Vec<Course>) -> Case {
+    assert!(courses.len() < 256, "more courses than a byte counts");
+    Case {
+        asked: Asked::Courses(courses),
+        ..case
+    }
+}
+
+fn words_up_to(k: usize, most: usize) -> Vec<Vec<u8>> {
+    let mut words = vec![vec![]];
+    let mut longest = words.clone();
+    for _ in 0..most {
+        let with = |word: &Vec<u8>| {
+            let more = (0..k as u8).map(|event| [word.as_slice(), &[event]].concat());
+            more.collect::<Vec<Vec<u8>>>()
+        };
+        longest = longest.iter().flat_map(with).collect();
+        words.extend(longest.clone());
+    }
+    words
+}
+
+/// Courses at every edge: no round, letters k, above k and 255, in u and in v, first and last, and two faults at once.
+fn refused_courses(k: u8) -> Vec<Course> {
+    let last = k - 1;
+    let many = |letter: u8| vec![letter; MOST_LETTERS];
+    let late = |letter: u8| [vec![0; MOST_LETTERS - 1], vec![letter]].concat();
+    vec![
+        (vec![], vec![]),
+        (vec![0], vec![]),
+        (vec![k], vec![]),
+        (vec![255], vec![]),
+        (vec![], vec![0]),
+        (vec![], vec![last]),
+        (vec![last], vec![last]),
+        (vec![], vec![k]),
+        (vec![k], vec![0]),
+        (vec![k], vec![k]),
+        (vec![255], vec![0]),
+        (vec![0], vec![255]),
+        (late(k), vec![0]),
+        (vec![0], late(k)),
+        (late(last), late(last)),
+        (many(0), many(last)),
+        (many(last), many(0)),
+        (vec![0, k, 0], vec![0]),
+        (vec![0], vec![0, k, 0]),
+    ]
 }
 
 /// C with one thing changed in each: every refusal at its edge, and what is not refused.
@@ -359,7 +543,7 @@ fn named_missing() -> Vec<Case> {
 fn long() -> Vec<Case> {
     ["C", "D"]
         .map(|name| Case {
-            runs: Runs::Long,
+            asked: Asked::Long,
             ..plain(named(name))
         })
         .into()

@@ -3,6 +3,8 @@ pub mod Searching
 pub mod Flags
 -- what is refused of a model
 pub mod Beyond
+-- words that are read, and what is refused of a course
+pub mod Reading
 -- what an event is and does
 pub mod Lent
 -- lent slices, a table filled into them, and the two tables
@@ -14,5 +16,9 @@ pub mod ProfileTable
 pub mod Rebuilding
 -- the answer of closing
 pub mod Answering
+-- the verdict on complete tables
+pub mod Concluding
 -- what follows from the contracts
 pub mod Promises
+-- the verdict of a model
+pub mod Judging

@@ -1,20 +1,32 @@
 -- WHAT FOLLOWS FROM THE CONTRACT OF EACH PUBLIC CALL: no second result meets it, and what is past a count stays as it was.
-use Prim.Native.Nat.{ℕ, _≤_}
+use Prim.Native.Nat.{ℕ, _+_, _≤_}
 use native.Mathlib.Omega.{arith}
 use mathlib.Core.Path.{_≡_, refl, sym, ap, ap₂, _∙_}
 use mathlib.Core.List.{List, map}
-use lib.ListN.{length, take, length-map}
+use lib.ListN.{length, take, length-map, length-append}
+use lib.Dec.{eqb}
+use Rattle.laws.specs.Words.{Word}
 use Rattle.laws.specs.Model.{eight}
 use Rattle.laws.specs.Tables.{Entry}
 use Rattle.laws.specs.Profiles.{Profile, values}
 use Rattle.laws.specs.Answers.{SetSlices, ProfileSlices, setRoom, profileRoom, over, setSlices, profileSlices, closingIn}
-use Rattle.laws.proofs.Answered.{closing-within}
+use Rattle.laws.specs.Answers.{words, verdictAnswer, verdictIn, wordMemory}
+use Rattle.laws.proofs.Booleans.{never}
+use Rattle.laws.proofs.Answered.{closing-within, verdict-within, one-judged}
 use Rattle.laws.proofs.Read.{first-numbers}
 use Rattle.cover.specs.Values.{asked}
 use Rattle.cover.specs.Memory.{Kept}
 use Rattle.cover.specs.Closing.{Closing, due}
+use Rattle.cover.specs.Verdicts.{told, tells, Judges, due as verdict-due}
+use Rattle.cover.specs.Editor.{inNumbers, Exports}
+use Rattle.cover.specs.Courses.{number, accepted, isSaid, JudgesCourse}
 use Rattle.cover.specs.declared.Closed.{Closed}
 use Rattle.cover.specs.declared.model.Model.{Model}
+use Rattle.cover.specs.declared.answer.Answer.{Answer}
+use Rattle.cover.specs.declared.answer.Answer.the-variants.{Covered, Uncovered, Refused}
+use Rattle.cover.specs.declared.editor.CoverVerdict.{CoverVerdict}
+use Rattle.cover.specs.declared.course.Judgement.{Judgement}
+use Rattle.cover.specs.declared.course.Judgement.the-variants.{Accepted, Rejected, Refused as Unjudged}
 use Rattle.cover.proofs.Slices.{over-length, over-past}
 use Rattle.cover.proofs.SetTable as of-sets
 use Rattle.cover.proofs.ProfileTable as of-profiles
@@ -95,3 +107,71 @@ module _ {m : Model} {arrows : List ℕ} {S S′ : SetSlices} {T T′ : ProfileS
       value f l =
           written _ _ (answer .profiles)
           (length-map (map (λ e. e .value) ts) f ∙ length-map ts (λ e. e .value) ∙ sym (c .profiles)) l
+
+-- no two answers tell the same
+told-once : (a b : Answer) → told a ≡ told b → a ≡ b
+unfolding told
+told-once a b e =
+    go a b (ap (λ t. t .covered) e) (ap (λ t. t .number) e) (ap (λ t. t .sets) e) (ap (λ t. t .profiles) e) (ap (λ t. t .u) e)
+    (ap (λ t. t .v) e)
+  where
+    go : (a b : Answer) → told a .covered ≡ told b .covered → told a .number ≡ told b .number → told a .sets ≡ told b .sets
+        → told a .profiles ≡ told b .profiles → told a .u ≡ told b .u → told a .v ≡ told b .v → a ≡ b
+    go (Covered s p) (Covered t q) c n g h i j = cc
+    go (Covered s p) (Uncovered t q w x) c n g h i j = cc
+    go (Covered s p) (Refused l t q) c n g h i j = cc
+    go (Uncovered s p u v) (Covered t q) c n g h i j = cc
+    go (Uncovered s p u v) (Uncovered t q w x) c n g h i j = cc
+    go (Uncovered s p u v) (Refused l t q) c n g h i j = cc
+    go (Refused k s p) (Covered t q) c n g h i j = cc
+    go (Refused k s p) (Uncovered t q w x) c n g h i j = cc
+    go (Refused k s p) (Refused l t q) c n g h i j = cc
+
+module _ {m : Model} {arrows : List ℕ} {S S′ : SetSlices} {T T′ : ProfileSlices} {memory memory′ : List ℕ} where
+  module _ {answer : Answer} (j : Judges m arrows S S′ T T′ memory memory′ answer) where
+    -- THE VERDICT has one result: the answer, and what all lent memory holds
+    pub one-verdict : {S″ : SetSlices} {T″ : ProfileSlices} {memory″ : List ℕ} {other : Answer}
+        → Judges m arrows S S″ T T″ memory memory″ other → (answer ≡ other) × (S′ ≡ S″) × (T′ ≡ T″) × (memory′ ≡ memory″)
+    one-verdict k =
+        let (_, sets, profiles) = one-closing (j .closing) (k .closing) in
+        (told-once answer _ (j .answered ∙ sym (k .answered)), sets, profiles, j .word-memory ∙ sym (k .word-memory))
+
+    -- what was written are u and v
+    words-long : length (words (verdict-due m arrows S T memory .verdict)) ≡ told answer .u + told answer .v
+    unfolding words tells
+    words-long = simp length-append (sym (ap (λ t. t .u + t .v) (j .answered)))
+
+    -- and past them the word memory has not changed
+    pub words-kept : Kept (told answer .u + told answer .v) memory memory′
+    unfolding verdictIn verdictAnswer closingIn wordMemory
+    words-kept =
+        let within = verdict-within 8 (due m arrows S T) (length memory) in
+        rw (j .word-memory) (written _ memory _ words-long (omega (arith, words-long)))
+
+  -- THE EDITOR'S CALL has one result too
+  pub one-export : {result : CoverVerdict} → Exports m arrows S S′ T T′ memory memory′ result
+      → {S″ : SetSlices} {T″ : ProfileSlices} {memory″ : List ℕ} {other : CoverVerdict} → Exports m arrows S S″ T T″ memory memory″ other
+      → (result ≡ other) × (S′ ≡ S″) × (T′ ≡ T″) × (memory′ ≡ memory″)
+  one-export e f =
+      let (answer, sets, profiles, memory) = one-verdict (e .judges) (f .judges) in
+      (e .numbers ∙ ap inNumbers answer ∙ sym (f .numbers), sets, profiles, memory)
+
+-- a judgement is its number, whether it is said, and whether the course is accepted
+same-judgement : (a b : Judgement) → number a ≡ number b → isSaid a ≡ isSaid b → accepted a ≡ accepted b → a ≡ b
+unfolding number isSaid accepted
+same-judgement Accepted Accepted n s e = refl
+same-judgement Accepted Rejected n s e = never (sym e)
+same-judgement Accepted (Unjudged l) n s e = never (sym s)
+same-judgement Rejected Accepted n s e = never e
+same-judgement Rejected Rejected n s e = refl
+same-judgement Rejected (Unjudged l) n s e = never (sym s)
+same-judgement (Unjudged k) Accepted n s e = never s
+same-judgement (Unjudged k) Rejected n s e = never s
+same-judgement (Unjudged k) (Unjudged l) n s e = ap Unjudged n
+
+-- JUDGING ONE COURSE has one result
+pub one-judged-course : {m : Model} {arrows : List ℕ} {u v : Word} {answer other : Judgement} → JudgesCourse m arrows u v answer
+    → JudgesCourse m arrows u v other → answer ≡ other
+one-judged-course {answer = answer} {other = other} c d =
+    let (n, e) = one-judged (c .course) (d .course) in
+    same-judgement answer other n (c .said-with-0 ∙ ap (λ n. eqb n 0) n ∙ sym (d .said-with-0)) e

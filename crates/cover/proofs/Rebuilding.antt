@@ -1,19 +1,19 @@
 -- How the word of an entry is rebuilt from two slices, of predecessors and of events: letter by letter through ever smaller numbers, as
--- `count` and `write` do. What the slices of a table that holds all values give is the word of its entries.
+-- `count` and `write` do. The slices of a table that holds all values are linked, and give the words of its entries.
 use Prim.Native.Nat.{ℕ, zero, suc, _+_, _<_, _≤_}
 use native.Mathlib.Omega.{arith}
 use mathlib.Core.Path.{_≡_, refl, sym, ap, _∙_}
 use mathlib.Core.Bool.{Bool, true, false, cond}
 use mathlib.Core.Logic.{_⊎_, inl, inr, ⊎-elim}
-use mathlib.Core.List.{List, [], _∷_, _++_, map}
+use mathlib.Core.List.{List, [], _∷_, _++_}
 use mathlib.Core.Option.{Option, none, some}
-use lib.ListN.{length, getD, getElem?, length-map}
-use lib.Dec.{eqb}
-use borrow.Author.Tests.{ne-eqb}
+use lib.ListN.{length, getD, getElem?}
+use lib.Dec.{eqb, ltb}
+use borrow.Author.Tests.{ne-eqb, ltb-true, ltb-false}
 use Rattle.laws.specs.Words as words
 use Rattle.laws.specs.Tables.{WordValue, Entry, noEntry, noEvent, Came, empty-word, one-event, one-more, Holds, rebuilt, wordOf}
-use Rattle.laws.proofs.Booleans.{inside, not-nothing}
-use Rattle.laws.proofs.Places.{place-below, element, past-end, end-past, length-one-more}
+use Rattle.laws.proofs.Booleans.{inside, either}
+use Rattle.laws.proofs.Places.{place-below, past-end, end-past, length-one-more}
 use Rattle.cover.specs.Memory.{entriesIn, Linked, wordIn}
 use Rattle.cover.proofs.Slices.{entries-at, entries-length}
 
@@ -145,64 +145,41 @@ module _ {from event : List ℕ} (h : Linked from event) (i : ℕ) (l : i < leng
   unfolding wordIn wordOf
   word-short = omega (arith, l, rebuilt-short (links from event) (suc i) i)
 
--- what f gives of the element at a place
-mapped : {A : Type 0} (f : A → ℕ) (xs : List A) (i : ℕ) {x : A} → getElem? xs i ≡ some x → getD (map f xs) i 0 ≡ f x
-mapped f [] i p = absurd (not-nothing p)
-mapped f (y ∷ xs) zero p = ap f (inside p)
-mapped f (y ∷ xs) (suc i) p = mapped f xs i p
+-- SLICES WHOSE ENTRIES HOLD ALL VALUES are linked: an entry's predecessor has a smaller number, or there is none
+pub linked : {Value : Type 0} {Val : WordValue Value} {k : ℕ} (value : ℕ → Value) (from event : List ℕ) (n : ℕ)
+    → Holds Val k (entriesIn value from event n) → length from ≡ n → n ≤ length event → Linked from event
+linked {Val = Val} value from event n h e long =
+    record { events-there = omega arith; falls = λ i l. came (h .came i _ (entries-at value from event n i (omega arith))) }
+  where
+    came : {i : ℕ} {e : Entry _} → Came Val (h .word) i e → (e .from ≡ noEntry) ⊎ (e .from < i)
+    came (empty-word p f a) = inl f
+    came (one-event n p f) = inl f
+    came (one-more m p) = inr m
 
--- the predecessors and the events of entries
-module _ {Value : Type 0} where
-  abbrev pub froms : List (Entry Value) → List ℕ
-  froms es = map (λ e. e .from) es
+-- THE WORD OF AN ENTRY that is read with any value is what the two slices give
+module _ {Value : Type 0} (value : ℕ → Value) (from event : List ℕ) where
+  abbrev valued : List (Entry Value)
+  valued = entriesIn value from event (length from)
 
-  abbrev pub events : List (Entry Value) → List ℕ
-  events es = map (λ e. e .event) es
-
-  -- ENTRIES THAT HOLD ALL VALUES have predecessors with smaller numbers, or none
-  pub linked : {Val : WordValue Value} {k : ℕ} {es : List (Entry Value)} → Holds Val k es → Linked (froms es) (events es)
-  linked {Val = Val} {es = es} h = record { events-there = simp length-map (omega arith); falls = falls }
+  rebuilt-same : (d i : ℕ) → rebuilt valued d i ≡ rebuilt (links from event) d i
+  unfolding rebuilt
+  rebuilt-same zero i = refl
+  rebuilt-same (suc d) i =
+      ⊎-elim (λ b. at (rebuilt-same d) (ltb-true i (length from) b)) (λ b. past (ltb-false i (length from) b))
+      (either (ltb i (length from)))
     where
-      came : (i : ℕ) (e : Entry Value) → Came Val (h .word) i e → (e .from ≡ noEntry) ⊎ (e .from < i)
-      came i e (empty-word p f a) = inl f
-      came i e (one-event n p f) = inl f
-      came i e (one-more m p) = inr m
+      at : ((j : ℕ) → rebuilt valued d j ≡ rebuilt (links from event) d j) → i < length from
+          → rebuilt valued (suc d) i ≡ rebuilt (links from event) (suc d) i
+      at same l =
+          rebuilt-at valued d i (entries-at value from event (length from) i l)
+          ∙ ap (spelt (getD from i 0) (getD event i 0)) (same (getD from i 0))
+          ∙ sym (rebuilt-at (links from event) d i (at-links from event i l))
 
-      falls : (i : ℕ) → i < length (froms es) → (getD (froms es) i 0 ≡ noEntry) ⊎ (getD (froms es) i 0 < i)
-      falls i l =
-          let (e, p) = element es i (omega (arith, length-map es (λ e. e .from))) in
-          rw (mapped (λ e. e .from) es i p) (came i e (h .came i e p))
+      past : length from ≤ i → rebuilt valued (suc d) i ≡ rebuilt (links from event) (suc d) i
+      past l =
+          rebuilt-past valued d i (omega (arith, entries-length value from event (length from)))
+          ∙ sym (rebuilt-past (links from event) d i (omega (arith, length-links from event)))
 
-  -- the links of entries rebuild the words that the entries do
-  module _ (es : List (Entry Value)) where
-    abbrev relinked : List (Entry ℕ)
-    relinked = links (froms es) (events es)
-
-    rebuilt-same : (d i : ℕ) → rebuilt relinked d i ≡ rebuilt es d i
-    unfolding rebuilt
-    rebuilt-same zero i = refl
-    rebuilt-same (suc d) i = go (rebuilt-same d) (getElem? es i) refl
-      where
-        as-long : length (froms es) ≡ length es
-        as-long = length-map es (λ e. e .from)
-
-        go : ((j : ℕ) → rebuilt relinked d j ≡ rebuilt es d j) → (o : Option (Entry Value)) → getElem? es i ≡ o
-            → rebuilt relinked (suc d) i ≡ rebuilt es (suc d) i
-        go same none p =
-            let past = end-past es i p in
-            let also : length relinked ≤ i = omega (arith, as-long, length-links (froms es) (events es)) in
-            rebuilt-past relinked d i also ∙ sym (rebuilt-past es d i past)
-        go same (some e) p =
-            let l : i < length (froms es) = omega (arith, as-long, place-below es i p) in
-            cc (
-              rebuilt-at relinked d i (at-links (froms es) (events es) i l),
-              mapped (λ e. e .from) es i p,
-              mapped (λ e. e .event) es i p,
-              same (e .from),
-              rebuilt-at es d i p,
-            )
-
-    -- THE WORD OF AN ENTRY is what its table's two slices give
-    pub word-same : (i : ℕ) → wordIn (froms es) (events es) i ≡ wordOf es i
-    unfolding wordIn wordOf
-    word-same i = rebuilt-same (suc i) i
+  pub word-same : (i : ℕ) → wordOf valued i ≡ wordIn from event i
+  unfolding wordIn wordOf
+  word-same i = rebuilt-same (suc i) i

@@ -128,3 +128,12 @@ module _ {Value : Type 0} (value : ℕ → Value) (from event : List ℕ) where
   entries-are es n h same =
       same-lists (entriesIn value from event n) es (entries-length n ∙ sym h)
       (λ i x y p q. inside (sym p ∙ entries-at n i (omega (arith, place-below es i q))) ∙ same i y q)
+
+-- the first n places of the slices have the entries that all places have
+pub entries-part : {Value : Type 0} (here there : ℕ → Value) (from event : List ℕ) (n : ℕ) → ((i : ℕ) → i < n → here i ≡ there i)
+    → entriesIn here (take n from) (take n event) n ≡ entriesIn there from event n
+entries-part here there from event n same =
+    entries-are here (take n from) (take n event) (entriesIn there from event n) n (entries-length there from event n)
+    (λ i e at.
+    let l : i < n = omega (arith, place-below (entriesIn there from event n) i at, entries-length there from event n) in
+    rw (same i l, getD-take n from i 0 l, getD-take n event i 0 l) (inside (sym (entries-at there from event n i l) ∙ at)))

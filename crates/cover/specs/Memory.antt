@@ -1,16 +1,18 @@
 -- What stands in lent slices: the entries in their first places, what must hold of them before a call, and what filling a table leaves.
 use Prim.Native.Nat.{ℕ, _<_, _≤_}
 use mathlib.Core.Path.{_≡_}
-use mathlib.Core.Bool.{false}
+use mathlib.Core.Bool.{false, cond}
 use mathlib.Core.Logic.{_⊎_}
-use mathlib.Core.List.{List, map}
+use mathlib.Core.List.{List, map, _++_}
 use lib.ListN.{length, getD}
+use lib.Dec.{leb}
 use Rattle.laws.specs.Bits.{counted}
 use Rattle.laws.specs.Tables.{Entry, Table, noEntry, wordOf}
 use Rattle.laws.specs.Words as words
 use Rattle.laws.specs.Profiles.{Profile}
-use Rattle.laws.specs.Answers.{SetSlices, ProfileSlices}
+use Rattle.laws.specs.Answers.{SetSlices, ProfileSlices, over}
 use Rattle.cover.specs.declared.table.Filled.{Filled}
+use Rattle.cover.specs.declared.words.Placed.{Placed}
 
 -- the slices of a table as one value
 abbrev pub setMemory : List ℕ → List ℕ → List ℕ → SetSlices
@@ -71,3 +73,10 @@ pub record Linked (from event : List ℕ) : Type 0 where
 -- the word of entry number i, by these two slices; the values of the entries play no part in it
 unfoldable pub wordIn : List ℕ → List ℕ → ℕ → words.Word
 wordIn from event i = wordOf (entriesIn (λ j. j) from event (length from)) i
+
+-- u and then v were written to the beginning of a memory with room for both; without room nothing was. answer says both lengths
+pub record Places (u v : words.Word) (old new : List ℕ) (answer : Placed) : Type 0 where
+  pub fits : answer .fits ≡ leb (length (u ++ v)) (length old)
+  pub u-letters : answer .u ≡ length u
+  pub v-letters : answer .v ≡ length v
+  pub memory : new ≡ cond (answer .fits) (over (u ++ v) old) old

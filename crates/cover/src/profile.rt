@@ -3,7 +3,8 @@ ghost use Prim.Native.Nat.{_<_, _%_};
 ghost use mathlib.Core.Path.{_≡_};
 ghost use mathlib.Core.Bool.{_&&_, _||_};
 ghost use Rattle.laws.specs.Bits.{bit, cell, someBelow};
-ghost use Rattle.laws.specs.Profiles.{leadsTo, marked, join as joined, image as led};
+ghost use Rattle.laws.specs.Profiles.{sameProfile, leadsTo, marked, join as joined, image as led};
+ghost use Rattle.laws.specs.Repeats.{union as united};
 ghost use Rattle.cover.specs.Values.{profile, eventValue, nextValue, plain};
 use crate::bits::has;
 use crate::bits::pack;
@@ -86,6 +87,39 @@ pub fn join(s: Profile, t: Profile) -> Profile
         arrows: pack(leads, 64),
         marks: pack(marks, 64),
     }
+}
+
+// One of two numbers has bit i.
+fn either(x: u64, y: u64, i: usize) -> bool
+    requires { ⌜ i < 64 ⌝ }
+    ensures { λ b. ⌜ b ≡ (bit x i || bit y i) ⌝ }
+{
+    has(x, i) | has(y, i)
+}
+
+// Leads and marks where s or t does.
+pub fn union(s: Profile, t: Profile) -> Profile
+    ensures { λ x. ⌜ profile x ≡ united 8 (profile s) (profile t) ⌝ }
+{
+    let mut leads = [false; 64];
+    let mut marks = [false; 64];
+    let mut i = 0;
+    while i < 64 {
+        leads[i] = either(s.arrows, t.arrows, i);
+        marks[i] = either(s.marks, t.marks, i);
+        i += 1;
+    }
+    Profile {
+        arrows: pack(leads, 64),
+        marks: pack(marks, 64),
+    }
+}
+
+// Both numbers are equal.
+pub fn is_same(s: Profile, t: Profile) -> bool
+    ensures { λ b. ⌜ b ≡ sameProfile (profile s) (profile t) ⌝ }
+{
+    s.arrows == t.arrows && s.marks == t.marks
 }
 
 // An arrow p to q of an event, at bit i = 8·p+q, that arrives at a home state.

@@ -19,7 +19,8 @@ use Rattle.laws.specs.Refusals.{firstOf, modelChecks, Unrefused}
 use Rattle.laws.specs.Profiles.{Profile, Verdict, covered, uncovered, RightVerdict, verdict, values}
 use Rattle.laws.specs.Profiles.{HoldsSets, HoldsProfiles, setTable, profileTable}
 use Rattle.laws.specs.Opposite.{written, blockProfiles, flags, stateCount, arrows, arrowCount, opposite, Opposed}
-use Rattle.laws.specs.Answers.{ClosingAnswer, closingAnswer, closingOf, uAndV, words, verdictAnswer, oppositeAnswer, CourseAnswer}
+use Rattle.laws.specs.Answers.{ClosingAnswer, closingAnswer, closingOf, uAndV, words, verdictFrom, verdictAnswer, oppositeAnswer}
+use Rattle.laws.specs.Answers.{CourseAnswer}
 use Rattle.laws.proofs.Booleans.{or-left, or-right, same-test}
 use Rattle.laws.proofs.Tables.{up-to}
 use Rattle.laws.proofs.Complete.{set-steps, profile-steps, sets-closing, profiles-closing}
@@ -31,6 +32,47 @@ use Rattle.laws.proofs.Unrefused.{unrefused}
 -- a table up to a room has no more entries than that
 fits : {Value : Type 0} {room : ℕ} {complete : List (Entry Value)} {t : Table Value} → UpTo room complete t → length (t .entries) ≤ room
 fits {room = room} {complete = complete} u = omega (arith, ap length (u .first), length-take room complete)
+
+-- THE VERDICT, from an answer c of closing and a room w for words; x is the verdict on its tables
+module _ (W : ℕ) (c : ClosingAnswer) (w : ℕ) where
+  abbrev x : Verdict
+  x = verdict W (c .sets) (c .profiles)
+
+  -- after a refusal of closing: its number and tables, and no verdict
+  pub verdict-refused : (n : ℕ) → c .number ≡ suc n
+      → verdictFrom W c w ≡ record { number = suc n; sets = c .sets; profiles = c .profiles; verdict = none }
+  unfolding verdictFrom
+  verdict-refused n e = rw (e, verdictFrom)
+
+  module _ (closed : c .number ≡ 0) where
+    -- 0 where the verdict is "covered"
+    pub verdict-covered : x ≡ covered
+        → verdictFrom W c w ≡ record { number = 0; sets = c .sets; profiles = c .profiles; verdict = some covered }
+    unfolding verdictFrom words uAndV
+    verdict-covered e = rw (closed, e, le-ltb w 0 (omega arith), verdictFrom, e)
+
+    module _ (u v : Word) (e : x ≡ uncovered u v) where
+      -- 6 where it is "uncovered" and u and v together exceed the word memory
+      pub verdict-6 : w < length (u ++ v)
+          → verdictFrom W c w ≡ record { number = 6; sets = c .sets; profiles = c .profiles; verdict = none }
+      unfolding verdictFrom words uAndV
+      verdict-6 l = rw (closed, e, lt-ltb w (length (u ++ v)) l, verdictFrom)
+
+      -- 0 where they do not
+      pub verdict-uncovered : length (u ++ v) ≤ w
+          → verdictFrom W c w ≡ record { number = 0; sets = c .sets; profiles = c .profiles; verdict = some (uncovered u v) }
+      unfolding verdictFrom words uAndV
+      verdict-uncovered l = rw (closed, e, le-ltb w (length (u ++ v)) l, verdictFrom, e)
+
+  -- whatever the number, no more is written than there is room
+  pub verdict-within : length (words (verdictFrom W c w .verdict)) ≤ w
+  unfolding verdictFrom words uAndV
+  verdict-within = go (c .number) (ltb w (length (words (some x)))) refl refl
+    where
+      go : (n : ℕ) (l : Bool) → c .number ≡ n → ltb w (length (words (some x))) ≡ l → length (words (verdictFrom W c w .verdict)) ≤ w
+      go (suc n) l e f = rw (e, verdictFrom) (omega arith)
+      go zero true e f = rw (e, f, verdictFrom) (omega arith)
+      go zero false e f = rw (e, f, verdictFrom) (ltb-false w (length (words (some x))) f)
 
 -- a and b are the rooms for sets and profiles; W and M are the model's, S and T its tables with these rooms, and C the answer of closing
 module _ (K : Kind) (m : Model) (a b : ℕ) where
@@ -152,54 +194,27 @@ module _ (K : Kind) (m : Model) (a b : ℕ) where
             profiles-fit = profiles-fit;
           })
 
-  -- the verdict on the closed tables
-  abbrev x : Verdict
-  x = verdict W (C .sets) (C .profiles)
-
   module _ (w : ℕ) where
-    -- THE VERDICT. After a refusal of closing: its number and tables, and no verdict
-    pub verdict-refused : (n : ℕ) → C .number ≡ suc n
-        → verdictAnswer K m a b w ≡ record { number = suc n; sets = C .sets; profiles = C .profiles; verdict = none }
-    unfolding verdictAnswer
-    verdict-refused n e = rw (e, verdictAnswer)
-
-    module _ (closed : C .number ≡ 0) where
-      -- 0 where the verdict is "covered"
-      pub verdict-covered : x ≡ covered
-          → verdictAnswer K m a b w ≡ record { number = 0; sets = C .sets; profiles = C .profiles; verdict = some covered }
-      unfolding verdictAnswer words uAndV
-      verdict-covered e = rw (closed, e, le-ltb w 0 (omega arith), verdictAnswer, e)
-
-      module _ (u v : Word) (e : x ≡ uncovered u v) where
-        -- 6 where it is "uncovered" and u and v together exceed the word memory
-        pub verdict-6 : w < length (u ++ v)
-            → verdictAnswer K m a b w ≡ record { number = 6; sets = C .sets; profiles = C .profiles; verdict = none }
-        unfolding verdictAnswer words uAndV
-        verdict-6 l = rw (closed, e, lt-ltb w (length (u ++ v)) l, verdictAnswer)
-
-        -- 0 where they do not
-        pub verdict-uncovered : length (u ++ v) ≤ w
-            → verdictAnswer K m a b w ≡ record { number = 0; sets = C .sets; profiles = C .profiles; verdict = some (uncovered u v) }
-        unfolding verdictAnswer words uAndV
-        verdict-uncovered l = rw (closed, e, le-ltb w (length (u ++ v)) l, verdictAnswer, e)
+    abbrev y : Verdict
+    y = verdict W (C .sets) (C .profiles)
 
     -- DEMAND 2: with number 0 the verdict is that of the tables, and it is right
     pub verdict-answers : a ≤ suc noEntry → b ≤ suc noEntry → K .events ≤ noEvent → verdictAnswer K m a b w .number ≡ 0
-        → (verdictAnswer K m a b w .verdict ≡ some x) × RightVerdict M (m .k) x
-    unfolding verdictAnswer
-    verdict-answers la lb lk h = go (C .number) (ltb w (length (words (some x)))) refl refl
+        → (verdictAnswer K m a b w .verdict ≡ some y) × RightVerdict M (m .k) y
+    unfolding verdictAnswer verdictFrom
+    verdict-answers la lb lk h = go (C .number) (ltb w (length (words (some y)))) refl refl
       where
-        right : C .number ≡ 0 → RightVerdict M (m .k) x
+        right : C .number ≡ 0 → RightVerdict M (m .k) y
         right e =
             let c = closing-whole e in
             verdict-right W M (machine-within W m (c .model .n-most)) (m .k) (C .sets) (C .profiles)
             (c .sets-hold) (c .profiles-hold) (omega arith) (omega arith) (omega arith)
 
-        go : (n : ℕ) (l : Bool) → C .number ≡ n → ltb w (length (words (some x))) ≡ l
-            → (verdictAnswer K m a b w .verdict ≡ some x) × RightVerdict M (m .k) x
-        go (suc n) l e f = absurd (omega (arith, rw (e, verdictAnswer) at h))
-        go zero true e f = absurd (omega (arith, rw (e, f, verdictAnswer) at h))
-        go zero false e f = (rw (e, f, verdictAnswer), right e)
+        go : (n : ℕ) (l : Bool) → C .number ≡ n → ltb w (length (words (some y))) ≡ l
+            → (verdictAnswer K m a b w .verdict ≡ some y) × RightVerdict M (m .k) y
+        go (suc n) l e f = absurd (omega (arith, rw (e, verdictFrom) at h))
+        go zero true e f = absurd (omega (arith, rw (e, f, verdictFrom) at h))
+        go zero false e f = (rw (e, f, verdictFrom), right e)
 
   -- the sets, profiles and blocks that the opposite is made from, and its counted states and arrows
   abbrev Ps : List ℕ

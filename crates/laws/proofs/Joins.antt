@@ -180,10 +180,10 @@ module _ (W : ℕ) where
   unfolding image
   image-bit P t q h = bit-fromBits W (λ q. someBelow W (from P t q)) q h
 
-  image-has : (P : ℕ) (t : Profile) (p q : ℕ) → p < W → q < W → bit P p ≡ true → leadsTo W t p q ≡ true → bit (image W P t) q ≡ true
+  pub image-has : (P : ℕ) (t : Profile) (p q : ℕ) → p < W → q < W → bit P p ≡ true → leadsTo W t p q ≡ true → bit (image W P t) q ≡ true
   image-has P t p q hp hq b l = image-bit P t q hq ∙ some-below (from P t q) W p hp (both b l)
 
-  image-from : (P : ℕ) (t : Profile) (q : ℕ) → q < W → bit (image W P t) q ≡ true
+  pub image-from : (P : ℕ) (t : Profile) (q : ℕ) → q < W → bit (image W P t) q ≡ true
       → (p : ℕ) × (p < W) × (bit P p ≡ true) × (leadsTo W t p q ≡ true)
   image-from P t q h e = below-both (bit P) (λ p. leadsTo W t p q) W (sym (image-bit P t q h) ∙ e)
 

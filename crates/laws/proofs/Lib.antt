@@ -35,6 +35,7 @@ pub mod Tables
 pub mod Complete
 -- 4. the verdict
 pub mod Rounds
+pub mod Repeats
 pub mod Verdicts
 -- 5. the opposite
 pub mod Lassos

@@ -76,6 +76,21 @@ same-bits (suc N) x y hx hy h =
     go true e f = omega (arith, eqb-true)
     go false e f = omega (arith, eqb-false)
 
+-- of two numbers below 2^N, one that has all bits of the other is not below it
+pub more-bits : (N x y : ℕ) → x < 2 ^ N → y < 2 ^ N → ((i : ℕ) → i < N → bit x i ≡ true → bit y i ≡ true) → x ≤ y
+more-bits zero x y hx hy h = omega arith
+more-bits (suc N) x y hx hy h =
+    let double = pow-succ' 2 N in
+    let bits : (i : ℕ) → i < N → bit (x / 2) i ≡ true → bit (y / 2) i ≡ true =
+    λ i l b. sym (bit-suc y i) ∙ h (suc i) (omega arith) (bit-suc x i ∙ b) in
+    let halves = more-bits N (x / 2) (y / 2) (omega arith) (omega arith) bits in
+    let low = go (eqb (x % 2) 1) (λ b. sym (bit-zero y) ∙ h 0 (omega arith) (bit-zero x ∙ b)) refl in
+    omega arith
+  where
+    go : (b : Bool) → (eqb (x % 2) 1 ≡ true → eqb (y % 2) 1 ≡ true) → eqb (x % 2) 1 ≡ b → x % 2 ≤ y % 2
+    go true f e = let g = f e in omega (arith, eqb-true)
+    go false f e = omega (arith, eqb-false)
+
 -- 0 has no bit, and is below 2^N
 pub no-bit : (i : ℕ) → bit 0 i ≡ false
 no-bit i = bit-beyond 0 0 i (omega arith) (omega arith)
@@ -145,6 +160,14 @@ module _ (W : ℕ) where
   same-cells x y hx hy h =
       same-bits (W * W) x y hx hy
       (λ i l. subst (λ j. bit x j ≡ bit y j) (div-add-mod i W) (h (i / W) (i % W) (row-below i l) (column-below i l)))
+
+  -- and one that has all bits of the other for p, q below W is not below it
+  pub more-cells : (x y : ℕ) → x < 2 ^ (W * W) → y < 2 ^ (W * W)
+      → ((p q : ℕ) → p < W → q < W → cell W x p q ≡ true → cell W y p q ≡ true) → x ≤ y
+  unfolding cell
+  more-cells x y hx hy h =
+      more-bits (W * W) x y hx hy
+      (λ i l. subst (λ j. bit x j ≡ true → bit y j ≡ true) (div-add-mod i W) (h (i / W) (i % W) (row-below i l) (column-below i l)))
 
 -- below N a number has the bits of its remainder by 2^N
 low-bits : (N x i : ℕ) → i < N → bit (x % 2 ^ N) i ≡ bit x i

@@ -9,7 +9,7 @@ use Rattle.laws.proofs.Pigeonhole.{pigeonhole}
 module _ {A : Type 0} (op : A → A → A) where
   module _ (assoc : (x y z : A) → op (op x y) z ≡ op x (op y z)) where
     -- the numbers of joined elements add up
-    times-add : (m n : ℕ) (t : A) → op (times op m t) (times op n t) ≡ times op (suc (m + n)) t
+    pub times-add : (m n : ℕ) (t : A) → op (times op m t) (times op n t) ≡ times op (suc (m + n)) t
     unfolding times
     times-add zero n t = rw zero-add
     times-add (suc m) n t = rw (suc-add, assoc, times-add m n t)

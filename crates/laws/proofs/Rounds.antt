@@ -11,8 +11,8 @@ use borrow.Author.Tests.{eqb-true, eq-eqb}
 use Rattle.laws.specs.Bits.{bit, someBelow, times}
 use Rattle.laws.specs.Words.{Word, power, empty}
 use Rattle.laws.specs.Model.{Machine, Path, Accepted, Within}
-use Rattle.laws.specs.Profiles.{Profile, sameProfile, marked, join, image, isFitting, isRejecting, startSet, setFrom, setOf}
-use Rattle.laws.specs.Profiles.{profileOf}
+use Rattle.laws.specs.Profiles.{Profile, sameProfile, marked, join, image, isFitting, marksRound, isRejecting, startSet}
+use Rattle.laws.specs.Profiles.{setFrom, setOf, profileOf}
 use Rattle.laws.proofs.Booleans.{both, and-left, and-right, never, some-below, below-both}
 use Rattle.laws.proofs.Packing.{no-bit}
 use Rattle.laws.proofs.Joins.{same-equal, equal-same, image-join}
@@ -41,21 +41,21 @@ module _ (W : ℕ) where
 
   -- a rejecting pair fits
   pub rejecting-fits : (P : ℕ) (t : Profile) → isRejecting W P t ≡ true → isFitting W P t ≡ true
-  unfolding isRejecting
-  rejecting-fits P t h = and-left (isFitting W P t) (not (someBelow W (back P t))) h
+  unfolding isRejecting marksRound
+  rejecting-fits P t h = and-left (isFitting W P t) (not (marksRound W P t)) h
 
   -- and has no such state
   rejecting-unmarked : (P : ℕ) (t : Profile) → isRejecting W P t ≡ true → (r : ℕ) → r < W → bit P r ≡ true → marked W t r r ≡ true → ⊥
-  unfolding isRejecting
+  unfolding isRejecting marksRound
   rejecting-unmarked P t h r l b m =
-      let none = and-right (isFitting W P t) (not (someBelow W (back P t))) h in
+      let none = and-right (isFitting W P t) (not (marksRound W P t)) h in
       never (rw (some-below (back P t) W r l (both b m)) at none)
 
   -- a fitting pair that does not reject has one
   fitting-marked : (P : ℕ) (t : Profile) → isFitting W P t ≡ true → isRejecting W P t ≡ false
       → (r : ℕ) × (r < W) × (bit P r ≡ true) × (marked W t r r ≡ true)
-  unfolding isRejecting
-  fitting-marked P t f h = below-both (bit P) (λ r. marked W t r r) W (go (isFitting W P t) (someBelow W (back P t)) f h)
+  unfolding isRejecting marksRound
+  fitting-marked P t f h = below-both (bit P) (λ r. marked W t r r) W (go (isFitting W P t) (marksRound W P t) f h)
     where
       go : (a c : Bool) → a ≡ true → (a && not c) ≡ false → c ≡ true
       go true true e f = refl
@@ -72,7 +72,7 @@ module _ (W : ℕ) (M : Machine ℕ) where
     pub pair-fits : isFitting W (setOf W M (u ++ power m v)) e ≡ true
 
   -- the profile of v n + 1 times
-  power-profile : (v : Word) (t : Profile) → profileOf W M v ≡ some t → (n : ℕ)
+  pub power-profile : (v : Word) (t : Profile) → profileOf W M v ≡ some t → (n : ℕ)
       → profileOf W M (power (suc n) v) ≡ some (times (join W) n t)
   unfolding power times
   power-profile v t h zero = rw append-nil h

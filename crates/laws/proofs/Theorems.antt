@@ -15,6 +15,7 @@ use Rattle.laws.specs.Tables.{WordValue, Entry, noEntry, noEvent, Holds,
 use Rattle.laws.specs.Profiles.{Profile, values, marked, join, image, setOf, SetMeans, profileOf}
 use Rattle.laws.specs.Profiles.{ProfileMeans, setValue, profileValue, HoldsSets, HoldsProfiles}
 use Rattle.laws.specs.Profiles.{isRejecting, FirstPair, Verdict, covered, uncovered, RightVerdict, verdict}
+use Rattle.laws.specs.Repeats.{Repeats, acceptedFrom}
 use Rattle.laws.specs.Opposite.{Arrow, sorted, blockProfiles, flags, stateCount, arrows, arrowCount, opposite, Opposed}
 use Rattle.laws.specs.Answers.{CourseAnswer}
 use Rattle.laws.proofs.Places.{place-below}
@@ -30,6 +31,7 @@ use Rattle.laws.proofs.Tables.{few, closes}
 use Rattle.laws.proofs.Values.{entry-at}
 use Rattle.laws.proofs.Complete.{set-codes, sets-closing, profiles-closing, closed}
 use Rattle.laws.proofs.Verdicts.{covered-none, verdict-first, first-verdict, pair-once, verdict-right}
+use Rattle.laws.proofs.Repeats.{accepted-from}
 use Rattle.laws.proofs.Opposites.{opposed}
 use Rattle.laws.proofs.Sorted.{arrows-sorted, sorted-once}
 use Rattle.laws.proofs.Counts.{arrows-counted, states-counted, arrows-inside}
@@ -124,6 +126,12 @@ module _ (W : ℕ) (sets : List (Entry ℕ)) (profiles : List (Entry Profile)) w
   pub first-is-uncovered : (i j : ℕ) → FirstPair W (values sets) (values profiles) i j
       → verdict W sets profiles ≡ uncovered (wordOf sets i) (wordOf profiles j)
   first-is-uncovered = first-verdict W sets profiles
+
+-- ONE COURSE without tables: it is accepted exactly if all repeats of its round have a marked way back at the set of its beginning, or where
+-- they lead that set
+pub course-by-repeats : (W : ℕ) (M : Machine ℕ) → Within W M → (u v : Word) (t c : Profile) → profileOf W M v ≡ some t → Repeats W t c
+    → (acceptedFrom W (setOf W M u) c ≡ true) ↔ Accepted M u v
+course-by-repeats W M within u v t c = accepted-from W M within u v t c
 
 module _ (W : ℕ) (M : Machine ℕ) (k : ℕ) (sets : List (Entry ℕ)) (profiles : List (Entry Profile)) (hs : HoldsSets W M k sets)
     (hp : HoldsProfiles W M k profiles) where

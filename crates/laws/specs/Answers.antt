@@ -142,11 +142,10 @@ uAndV (some (uncovered u v)) = (u, v)
 unfoldable pub words : Option Verdict → Word
 words r = uAndV r .0 ++ uAndV r .1
 
--- after closing without refusal, 6 if u and v together exceed the word memory
-unfoldable pub verdictAnswer : Kind → Model → ℕ → ℕ → ℕ → VerdictAnswer
-verdictAnswer K m set-room profile-room word-room =
-    let c : ClosingAnswer = closingAnswer K m set-room profile-room in
-    let r : Option Verdict = some (verdict (K .states) (c .sets) (c .profiles)) in
+-- what follows an answer of closing, with a room for words: its refusal, or, without one, 6 if u and v together exceed the word memory
+unfoldable pub verdictFrom : ℕ → ClosingAnswer → ℕ → VerdictAnswer
+verdictFrom W c word-room =
+    let r : Option Verdict = some (verdict W (c .sets) (c .profiles)) in
     elim (c .number) [
       | suc n ↦ record { number = suc n; sets = c .sets; profiles = c .profiles; verdict = none }
       | zero ↦
@@ -155,6 +154,9 @@ verdictAnswer K m set-room profile-room word-room =
             | false ↦ record { number = 0; sets = c .sets; profiles = c .profiles; verdict = r }
           ]
     ]
+
+unfoldable pub verdictAnswer : Kind → Model → ℕ → ℕ → ℕ → VerdictAnswer
+verdictAnswer K m set-room profile-room word-room = verdictFrom (K .states) (closingAnswer K m set-room profile-room) word-room
 
 -- THE OPPOSITE: the number, what stands in the tables, and the opposite's flags and arrows, none of them after a refusal
 pub record OppositeAnswer : Type 0 where

@@ -3,6 +3,7 @@ pub mod Words
 pub mod Model
 pub mod Tables
 pub mod Profiles
+pub mod Repeats
 pub mod Opposite
 pub mod Refusals
 pub mod File

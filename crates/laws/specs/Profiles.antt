@@ -64,9 +64,13 @@ module _ (W : ℕ) where
   unfoldable pub isFitting : ℕ → Profile → Bool
   isFitting P t = eqb (image P t) P && sameProfile (join t t) t
 
-  -- a fitting pair with no state r of P that has a marked r to r in t
+  -- some state r of P has a marked r to r in t
+  unfoldable pub marksRound : ℕ → Profile → Bool
+  marksRound P t = someBelow W (λ r. bit P r && marked t r r)
+
+  -- a fitting pair with no such state
   unfoldable pub isRejecting : ℕ → Profile → Bool
-  isRejecting P t = isFitting P t && not (someBelow W (λ r. bit P r && marked t r r))
+  isRejecting P t = isFitting P t && not (marksRound P t)
 
   -- WHAT THE FIRST REJECTING PAIR IS, by set number i and then profile number j
   pub record FirstPair (Ps : List ℕ) (ts : List Profile) (i j : ℕ) : Type 0 where

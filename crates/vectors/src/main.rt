@@ -1,334 +1,44 @@
-// Runs the stored models through the library, each with every slice in turn lent too short, just right and too long, and with all of them
-// of different lengths. For each run the answer and all memory go into a sum. The file stdout was written by the independent program.
-ghost use Prim.Native.Nat.{_<_, _≤_};
-use cover::Closed;
+// Runs the stored models through the library: closing and the verdict, each with every slice in turn lent too short, just right and too
+// long, and with all of them of different lengths; and single courses. For each run the answer and all memory go into a sum. The file stdout
+// was written by the independent program.
+ghost use Prim.Native.Nat.{_≤_};
+use cover::Judgement;
 use cover::Model;
 use libc::STDIN_FILENO;
 use libc::STDOUT_FILENO;
 
+mod runs;
+mod sums;
+
+use runs::Call;
+use runs::PROFILES;
+use runs::SETS;
+use runs::Seen;
+use runs::WORDS;
+use runs::run;
+use runs::run_long;
+use sums::least;
+use sums::mix;
+use sums::one_below;
+use sums::wide;
+
 // A stored model: n and k in eight bytes each, low byte first, the two masks, how many arrow numbers are lent, then 17 such numbers, and
-// which runs are asked for.
+// what is asked for.
 const STORED: usize = 156;
 
 const MOST_ARROWS: usize = 17;
 
-// The runs asked for: all, one with memory enough, or one with slices longer than 16 bits can count.
+// What is asked for: all runs, one with memory enough, one with slices longer than 16 bits can count, or the courses that follow.
 const ONCE: u8 = 1;
 
 const LONG: u8 = 2;
 
-// The slices are longer than the limits, so that it is seen that nothing is written beyond these.
-const SETS: usize = 260;
+const COURSES: u8 = 3;
 
-const PROFILES: usize = 2052;
+const MANY: usize = 600;
 
-const LONGEST: usize = 65537;
-
-// An answer, and the sum of it and of every number in memory.
-struct Seen {
-    number: u8,
-    sets: usize,
-    profiles: usize,
-    sum: u64,
-}
-
-fn wide(x: u8) -> u64
-    ensures { λ r. ⌜ r < 256 ⌝ }
-{
-    x as u64
-}
-
-fn wider(x: u16) -> u64 {
-    x as u64
-}
-
-fn least(a: usize, b: usize) -> usize
-    ensures { λ r. ⌜ r ≤ b ⌝ }
-{
-    if a < b { a } else { b }
-}
-
-fn one_below(x: usize) -> usize {
-    if x == 0 { 0 } else { x - 1 }
-}
-
-// Sixteen bits go into the sum.
-fn mix_part(sum: u64, x: u64) -> u64
-    ensures { λ r. ⌜ r < 4294967291 ⌝ }
-{
-    (sum % 4294967291 * 65599 + x % 65536) % 4294967291
-}
-
-// Every part of x goes in by itself, so that no bit of it is lost.
-fn mix(sum: u64, x: u64) -> u64 {
-    let high = mix_part(mix_part(sum, x / 281474976710656), x / 4294967296);
-    mix_part(mix_part(high, x / 65536), x)
-}
-
-fn mix_bytes(sum: u64, s: &[u8]) -> u64 {
-    let mut all = sum;
-    for i in 0..s.len() {
-        all = mix(all, wide(s[i]));
-    }
-    all
-}
-
-fn mix_numbers(sum: u64, s: &[u16]) -> u64 {
-    let mut all = sum;
-    for i in 0..s.len() {
-        all = mix(all, wider(s[i]));
-    }
-    all
-}
-
-fn mix_words(sum: u64, s: &[u64]) -> u64 {
-    let mut all = sum;
-    for i in 0..s.len() {
-        all = mix(all, s[i]);
-    }
-    all
-}
-
-// What stands in place i before a run: with tone 0 all zeros, else another number in nearly every place.
-fn noise(tone: u64, i: usize) -> u64
-    ensures { λ r. ⌜ r < 65536 ⌝ }
-{
-    if tone == 0 {
-        return 0;
-    }
-    (i as u64 % 65536 * 40503 + tone % 1000 * 30011) % 65536
-}
-
-fn fill_bytes(s: &mut [u8], tone: u64) {
-    let n = s.len();
-    for i in 0..n {
-        s[i] = (noise(tone, i) % 256) as u8;
-    }
-}
-
-fn fill_numbers(s: &mut [u16], tone: u64) {
-    let n = s.len();
-    for i in 0..n {
-        s[i] = noise(tone, i) as u16;
-    }
-}
-
-fn fill_words(s: &mut [u64], tone: u64) {
-    let n = s.len();
-    for i in 0..n {
-        s[i] = noise(tone, i) * 281479271743489;
-    }
-}
-
-// A tone of its own for each slice, and 0 for all where the seed is 0.
-fn tone_of(seed: u64, slice: u64) -> u64 {
-    if seed == 0 {
-        0
-    } else {
-        seed % 100 * 8 + slice % 8
-    }
-}
-
-fn fill_all(
-    seed: u64,
-    masks: &mut [u8],
-    set_from: &mut [u16],
-    set_event: &mut [u8],
-    leads: &mut [u64],
-    marks: &mut [u64],
-    profile_from: &mut [u16],
-    profile_event: &mut [u8],
-) {
-    fill_bytes(masks, tone_of(seed, 0));
-    fill_numbers(set_from, tone_of(seed, 1));
-    fill_bytes(set_event, tone_of(seed, 2));
-    fill_words(leads, tone_of(seed, 3));
-    fill_words(marks, tone_of(seed, 4));
-    fill_numbers(profile_from, tone_of(seed, 5));
-    fill_bytes(profile_event, tone_of(seed, 6));
-}
-
-fn mix_all(
-    start: u64,
-    masks: &[u8],
-    set_from: &[u16],
-    set_event: &[u8],
-    leads: &[u64],
-    marks: &[u64],
-    profile_from: &[u16],
-    profile_event: &[u8],
-) -> u64 {
-    let mut sum = mix_bytes(start, masks);
-    sum = mix_numbers(sum, set_from);
-    sum = mix_bytes(sum, set_event);
-    sum = mix_words(sum, leads);
-    sum = mix_words(sum, marks);
-    sum = mix_numbers(sum, profile_from);
-    mix_bytes(sum, profile_event)
-}
-
-// Of each slice as much is lent as lengths says.
-fn close_parts(
-    m: Model,
-    arrows: &[u64],
-    lengths: [usize; 7],
-    masks: &mut [u8],
-    set_from: &mut [u16],
-    set_event: &mut [u8],
-    leads: &mut [u64],
-    marks: &mut [u64],
-    profile_from: &mut [u16],
-    profile_event: &mut [u8],
-) -> Closed {
-    let a = least(lengths[0], masks.len());
-    let b = least(lengths[1], set_from.len());
-    let c = least(lengths[2], set_event.len());
-    let d = least(lengths[3], leads.len());
-    let e = least(lengths[4], marks.len());
-    let f = least(lengths[5], profile_from.len());
-    let g = least(lengths[6], profile_event.len());
-    cover::close(
-        m,
-        arrows,
-        &mut masks[..a],
-        &mut set_from[..b],
-        &mut set_event[..c],
-        &mut leads[..d],
-        &mut marks[..e],
-        &mut profile_from[..f],
-        &mut profile_event[..g],
-    )
-}
-
-fn run_filled(
-    m: Model,
-    arrows: &[u64],
-    lengths: [usize; 7],
-    masks: &mut [u8],
-    set_from: &mut [u16],
-    set_event: &mut [u8],
-    leads: &mut [u64],
-    marks: &mut [u64],
-    profile_from: &mut [u16],
-    profile_event: &mut [u8],
-) -> Seen {
-    let closed = close_parts(
-        m,
-        arrows,
-        lengths,
-        masks,
-        set_from,
-        set_event,
-        leads,
-        marks,
-        profile_from,
-        profile_event,
-    );
-    let answer = mix(
-        mix(mix(0, wide(closed.number)), closed.sets as u64),
-        closed.profiles as u64,
-    );
-    let sum = mix_all(
-        answer,
-        masks,
-        set_from,
-        set_event,
-        leads,
-        marks,
-        profile_from,
-        profile_event,
-    );
-    Seen {
-        number: closed.number,
-        sets: closed.sets,
-        profiles: closed.profiles,
-        sum,
-    }
-}
-
-// One run over memory that is filled anew.
-fn run_in(
-    m: Model,
-    arrows: &[u64],
-    lengths: [usize; 7],
-    seed: u64,
-    masks: &mut [u8],
-    set_from: &mut [u16],
-    set_event: &mut [u8],
-    leads: &mut [u64],
-    marks: &mut [u64],
-    profile_from: &mut [u16],
-    profile_event: &mut [u8],
-) -> Seen {
-    fill_all(
-        seed,
-        masks,
-        set_from,
-        set_event,
-        leads,
-        marks,
-        profile_from,
-        profile_event,
-    );
-    run_filled(
-        m,
-        arrows,
-        lengths,
-        masks,
-        set_from,
-        set_event,
-        leads,
-        marks,
-        profile_from,
-        profile_event,
-    )
-}
-
-fn run(m: Model, arrows: &[u64], lengths: [usize; 7], seed: u64) -> Seen {
-    let mut masks = [0u8; SETS];
-    let mut set_from = [0u16; SETS];
-    let mut set_event = [0u8; SETS];
-    let mut leads = [0u64; PROFILES];
-    let mut marks = [0u64; PROFILES];
-    let mut profile_from = [0u16; PROFILES];
-    let mut profile_event = [0u8; PROFILES];
-    run_in(
-        m,
-        arrows,
-        lengths,
-        seed,
-        &mut masks,
-        &mut set_from,
-        &mut set_event,
-        &mut leads,
-        &mut marks,
-        &mut profile_from,
-        &mut profile_event,
-    )
-}
-
-fn run_long(m: Model, arrows: &[u64]) -> Seen {
-    let mut masks = [0u8; LONGEST];
-    let mut set_from = [0u16; LONGEST];
-    let mut set_event = [0u8; LONGEST];
-    let mut leads = [0u64; LONGEST];
-    let mut marks = [0u64; LONGEST];
-    let mut profile_from = [0u16; LONGEST];
-    let mut profile_event = [0u8; LONGEST];
-    run_in(
-        m,
-        arrows,
-        [LONGEST; 7],
-        6,
-        &mut masks,
-        &mut set_from,
-        &mut set_event,
-        &mut leads,
-        &mut marks,
-        &mut profile_from,
-        &mut profile_event,
-    )
-}
+// A stored course: how many letters u and v have, at most so many each, and then the letters.
+const MOST_LETTERS: usize = 40;
 
 fn print(x: u64, end: u8) {
     io::print_decimal(STDOUT_FILENO, x);
@@ -340,6 +50,9 @@ fn print_seen(seen: Seen) {
     print(wide(seen.number), b' ');
     print(seen.sets as u64, b' ');
     print(seen.profiles as u64, b' ');
+    print(wide(seen.verdict), b' ');
+    print(seen.u as u64, b' ');
+    print(seen.v as u64, b' ');
     print(seen.sum, b'\n');
 }
 
@@ -357,21 +70,30 @@ fn number_at(stored: [u8; STORED], at: usize) -> u64
 }
 
 // All slices whole.
-fn whole() -> [usize; 7] {
-    [SETS, SETS, SETS, PROFILES, PROFILES, PROFILES, PROFILES]
+fn whole() -> [usize; 8] {
+    [
+        SETS,
+        SETS,
+        SETS,
+        PROFILES,
+        PROFILES,
+        PROFILES,
+        PROFILES,
+        WORDS,
+    ]
 }
 
 // All slices whole but one.
-fn but_one(short: usize, room: usize) -> [usize; 7] {
+fn but_one(short: usize, room: usize) -> [usize; 8] {
     let mut lengths = whole();
-    if short < 7 {
+    if short < 8 {
         lengths[short] = room;
     }
     lengths
 }
 
-// All slices of different lengths, the least of them as long as said; turn says which that is.
-fn all_different(sets: usize, profiles: usize, turn: usize) -> [usize; 7] {
+// All slices of different lengths, the least of them as long as said; turn says which that is. The word memory is as long as said.
+fn all_different(sets: usize, profiles: usize, words: usize, turn: usize) -> [usize; 8] {
     let s = least(sets, SETS);
     let p = least(profiles, PROFILES);
     let t = turn % 12;
@@ -383,6 +105,7 @@ fn all_different(sets: usize, profiles: usize, turn: usize) -> [usize; 7] {
         p + (t + 1) % 4,
         p + (t + 2) % 4,
         p + (t + 3) % 4,
+        words,
     ]
 }
 
@@ -397,14 +120,26 @@ fn room_tried(i: usize, need: usize) -> usize {
     if i == 3 {
         return need;
     }
-    least(need, PROFILES) + 1
+    least(need, WORDS) + 1
+}
+
+// What a slice must hold so that nothing is refused for room: the last is the word memory.
+fn need_of(slice: usize, sets: usize, profiles: usize, words: usize) -> usize {
+    if slice < 3 {
+        return sets;
+    }
+    if slice < 7 {
+        return profiles;
+    }
+    words
 }
 
 // One slice short, by five rooms around what is needed; just enough over zeros.
-fn show_short(m: Model, arrows: &[u64], short: usize, need: usize) {
+fn show_short(call: Call, m: Model, arrows: &[u64], short: usize, need: usize) {
     let mut sum: u64 = 0;
     for i in 0..5usize {
         let seen = run(
+            call,
             m,
             arrows,
             but_one(short, room_tried(i, need)),
@@ -416,40 +151,133 @@ fn show_short(m: Model, arrows: &[u64], short: usize, need: usize) {
     print(sum, b'\n');
 }
 
-// All slices of different lengths: just enough, too few profiles, and too few of both.
-fn show_different(m: Model, arrows: &[u64], sets: usize, profiles: usize) {
-    let enough = run(m, arrows, all_different(sets, profiles, 0), 7);
-    let fewer = run(m, arrows, all_different(sets, one_below(profiles), 5), 8);
-    let least_of_all = run(
+// All slices of different lengths: just enough, one profile too few, and one set too few as well.
+fn show_different(
+    call: Call,
+    m: Model,
+    arrows: &[u64],
+    sets: usize,
+    profiles: usize,
+    words: usize,
+) {
+    let fewer = one_below(profiles);
+    let all = run(call, m, arrows, all_different(sets, profiles, words, 0), 7);
+    let some = run(call, m, arrows, all_different(sets, fewer, words, 5), 8);
+    let few = run(
+        call,
         m,
         arrows,
-        all_different(one_below(sets), one_below(profiles), 10),
+        all_different(one_below(sets), fewer, words, 10),
         9,
     );
-    print(wide(enough.number), b' ');
-    print(wide(fewer.number), b' ');
-    print(wide(least_of_all.number), b' ');
-    print(mix(mix(enough.sum, fewer.sum), least_of_all.sum), b'\n');
+    print(wide(all.number), b' ');
+    print(wide(some.number), b' ');
+    print(wide(few.number), b' ');
+    print(mix(mix(all.sum, some.sum), few.sum), b'\n');
 }
 
-fn show_all(m: Model, arrows: &[u64], sets: usize, profiles: usize) {
-    for short in 0..7usize {
-        let need = if short < 3 { sets } else { profiles };
-        show_short(m, arrows, short, need);
+// From which slice on each is lent too short: none where the model itself is refused, and only those from `late` on where there are very
+// many profiles, since the search then takes long.
+fn first_short(seen: Seen, none: usize, late: usize) -> usize {
+    if 0 < seen.number && seen.number < 4 {
+        return none;
     }
-    show_different(m, arrows, sets, profiles);
+    if MANY < seen.profiles { late } else { 0 }
 }
 
-// A model with memory enough, and then the runs asked for.
+// The slices from one number up to another each alone too short, just right and too long, then all of different lengths.
+fn show_rooms(call: Call, m: Model, arrows: &[u64], from: usize, to: usize, seen: Seen) {
+    let words = least(seen.u, WORDS) + least(seen.v, WORDS);
+    for short in from..to {
+        let need = need_of(short, seen.sets, seen.profiles, words);
+        show_short(call, m, arrows, short, need);
+    }
+    show_different(call, m, arrows, seen.sets, seen.profiles, words);
+}
+
+// Closing with memory enough, and then both calls as asked for.
 fn show(m: Model, arrows: &[u64], asked: u8) {
-    if asked == LONG {
-        print_seen(run_long(m, arrows));
+    if asked == COURSES {
+        show_courses(m, arrows);
         return;
     }
-    let seen = run(m, arrows, whole(), 1);
-    print_seen(seen);
-    if asked != ONCE {
-        show_all(m, arrows, seen.sets, seen.profiles);
+    if asked == LONG {
+        print_seen(run_long(Call::Close, m, arrows));
+        print_seen(run_long(Call::Verdict, m, arrows));
+        return;
+    }
+    let closed = run(Call::Close, m, arrows, whole(), 1);
+    print_seen(closed);
+    if asked == ONCE {
+        return;
+    }
+    show_rooms(Call::Close, m, arrows, first_short(closed, 7, 0), 7, closed);
+    let judged = run(Call::Verdict, m, arrows, whole(), 1);
+    print_seen(judged);
+    show_rooms(
+        Call::Verdict,
+        m,
+        arrows,
+        first_short(judged, 8, 7),
+        8,
+        judged,
+    );
+}
+
+// Of both words as many letters are lent as said.
+fn judge_parts(
+    m: Model,
+    arrows: &[u64],
+    u: &[u8],
+    u_letters: usize,
+    v: &[u8],
+    v_letters: usize,
+) -> Judgement {
+    let a = least(u_letters, u.len());
+    let b = least(v_letters, v.len());
+    cover::judge(m, arrows, &u[..a], &v[..b])
+}
+
+// 100 for an accepted course, 101 for one that is not, and the number of a refusal.
+fn in_number(judgement: Judgement) -> u64 {
+    match judgement {
+        Judgement::Accepted => 100,
+        Judgement::Rejected => 101,
+        Judgement::Refused { number } => wide(number),
+    }
+}
+
+fn read_letters(out: &mut [u8], letters: usize) {
+    let n = least(letters, out.len());
+    io::read_full(STDIN_FILENO, &mut out[..n]);
+}
+
+fn show_course(m: Model, arrows: &[u64], end: u8) {
+    let mut letters = [0u8; 2];
+    let mut u = [0u8; MOST_LETTERS];
+    let mut v = [0u8; MOST_LETTERS];
+    io::read_full(STDIN_FILENO, &mut letters);
+    read_letters(&mut u, wide(letters[0]) as usize);
+    read_letters(&mut v, wide(letters[1]) as usize);
+    let judgement = judge_parts(
+        m,
+        arrows,
+        &u,
+        wide(letters[0]) as usize,
+        &v,
+        wide(letters[1]) as usize,
+    );
+    print(in_number(judgement), end);
+}
+
+// How many courses follow, and then each of them.
+fn show_courses(m: Model, arrows: &[u64]) {
+    let mut count = [0u8; 1];
+    io::read_full(STDIN_FILENO, &mut count);
+    let n = wide(count[0]);
+    for i in 0..n {
+        let end = if i + 1 == n { b'\n' } else { b' ' };
+        show_course(m, arrows, end);
     }
 }
 

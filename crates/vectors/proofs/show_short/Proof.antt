@@ -5,10 +5,10 @@ use Rattle.vectors.proofs.show_short.Statement.{statement}
 use Rattle.vectors.proofs.show_short.Tie as tie
 
 abbrev Inv-loop : tie.InvT-loop
-Inv-loop m arrows short need sum₀ i₀ sum i = i ≤ 5
+Inv-loop call m arrows short need sum₀ i₀ sum i = i ≤ 5
 
 abbrev μ-loop : tie.MeasureT-loop
-μ-loop m arrows short need sum₀ i₀ sum i = 5 - i
+μ-loop call m arrows short need sum₀ i₀ sum i = 5 - i
 
 loop-holds : tie.Need-loop-holds Inv-loop μ-loop
 loop-holds c = search needs

@@ -1,0 +1,100 @@
+// The call for an editor written in C: numbers and slices go in, a plain struct of numbers comes back.
+ghost use mathlib.Core.Path.{_≡_};
+ghost use Rattle.cover.specs.Memory.{setMemory, profileMemory};
+ghost use Rattle.cover.specs.Editor.{inNumbers, Exports};
+use crate::answer::Answer;
+use crate::model::Model;
+
+// The verdict's answer as numbers; include/cover.h declares the same. The verdict is 0 for none, 1 for "covered", 2 for "uncovered".
+#[repr(C)]
+pub struct CoverVerdict {
+    pub number: u8,
+    pub verdict: u8,
+    pub sets: usize,
+    pub profiles: usize,
+    pub u: usize,
+    pub v: usize,
+}
+
+// Each case of the answer as numbers.
+fn plain(answer: Answer) -> CoverVerdict
+    ensures { λ r. ⌜ r ≡ inNumbers answer ⌝ }
+{
+    match answer {
+        Answer::Covered { sets, profiles } => CoverVerdict {
+            number: 0,
+            verdict: 1,
+            sets,
+            profiles,
+            u: 0,
+            v: 0,
+        },
+        Answer::Uncovered {
+            sets,
+            profiles,
+            u,
+            v,
+        } => CoverVerdict {
+            number: 0,
+            verdict: 2,
+            sets,
+            profiles,
+            u,
+            v,
+        },
+        Answer::Refused {
+            number,
+            sets,
+            profiles,
+        } => CoverVerdict {
+            number,
+            verdict: 0,
+            sets,
+            profiles,
+            u: 0,
+            v: 0,
+        },
+    }
+}
+
+// The verdict, as `verdict` gives it.
+#[no_mangle]
+pub extern "C" fn cover_verdict(
+    n: usize,
+    k: usize,
+    start: u8,
+    home: u8,
+    arrows: &[u64],
+    set_masks: &mut [u8],
+    set_from: &mut [u16],
+    set_event: &mut [u8],
+    profile_arrows: &mut [u64],
+    profile_marks: &mut [u64],
+    profile_from: &mut [u16],
+    profile_event: &mut [u8],
+    memory: &mut [u8],
+) -> CoverVerdict
+    ensures { λ r. ⌜ Exports (record { n = n; k = k; start = start; home = home }) (now (arrows .entry))
+        (setMemory (now («set_masks» .entry)) (now («set_from» .entry)) (now («set_event» .entry)))
+        (setMemory (now («set_masks» .exit)) (now («set_from» .exit)) (now («set_event» .exit)))
+        (profileMemory (now («profile_arrows» .entry)) (now («profile_marks» .entry))
+        (now («profile_from» .entry)) (now («profile_event» .entry)))
+        (profileMemory (now («profile_arrows» .exit)) (now («profile_marks» .exit))
+        (now («profile_from» .exit)) (now («profile_event» .exit)))
+        (now (memory .entry)) (now (memory .exit))
+        r ⌝ }
+{
+    let m = Model { n, k, start, home };
+    plain(crate::verdict(
+        m,
+        arrows,
+        set_masks,
+        set_from,
+        set_event,
+        profile_arrows,
+        profile_marks,
+        profile_from,
+        profile_event,
+        memory,
+    ))
+}

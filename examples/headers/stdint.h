@@ -1,0 +1,5 @@
+/* For the kit's C compiler, which has no headers of its own. */
+#pragma once
+typedef __UINT8_TYPE__ uint8_t;
+typedef __UINT16_TYPE__ uint16_t;
+typedef __UINT64_TYPE__ uint64_t;

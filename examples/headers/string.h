@@ -1,0 +1,5 @@
+/* For the kit's C compiler, which has no headers of its own: what the example uses of its C library. */
+#pragma once
+#include <stddef.h>
+int strcmp(const char *a, const char *b);
+void *memset(void *to, int byte, size_t count);
