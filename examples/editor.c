@@ -1,5 +1,5 @@
-/* An editor's use of the check: the models worked by hand in document 01, each held against what the document says of it, and printed; then
- * the edges that the document lists. Exits with 1 if anything differs. */
+/* An editor's use of the check. The models that document 01 works by hand are checked and printed, each held against what the document says
+ * of it; then C at the edges of what is refused; then C's tables, in slices of different lengths. Exits with 1 if anything differs. */
 #include "../include/cover.h"
 #include <stdio.h>
 #include <string.h>
@@ -8,7 +8,7 @@
 static uint8_t set_masks[COVER_SETS], set_event[COVER_SETS];
 static uint16_t set_from[COVER_SETS], profile_from[COVER_PROFILES];
 static uint64_t profile_arrows[COVER_PROFILES], profile_marks[COVER_PROFILES];
-static uint8_t profile_event[COVER_PROFILES], words[COVER_WORDS];
+static uint8_t profile_event[COVER_PROFILES], memory[COVER_WORDS];
 
 typedef struct {
   const char *name;
@@ -20,26 +20,41 @@ typedef struct {
   const char *u, *v;
 } Model;
 
-/* an arrow from p to q */
+/* an arrow from p to q, and a state in a mask */
 #define ARROW(p, q) ((uint64_t)1 << (8 * (p) + (q)))
 #define STATE(q) ((uint8_t)(1 << (q)))
 
-static const Model models[] = {
+static const Model C = {"C", 2, 2, STATE(0), STATE(1), {ARROW(0, 1) | ARROW(1, 1), ARROW(0, 0) | ARROW(1, 0)}, 2, 3, "", " 1"};
+static const Model before_c[] = {
     {"A", 1, 1, STATE(0), STATE(0), {ARROW(0, 0)}, 1, 1, NULL, NULL},
     {"B", 1, 1, STATE(0), 0, {ARROW(0, 0)}, 1, 1, "", " 0"},
-    {"C", 2, 2, STATE(0), STATE(1), {ARROW(0, 1) | ARROW(1, 1), ARROW(0, 0) | ARROW(1, 0)}, 2, 3, "", " 1"},
+};
+static const Model after_c[] = {
     {"D", 1, 1, STATE(0), STATE(0), {0}, 2, 1, " 0", " 0"},
     {"E", 2, 1, STATE(0), STATE(1), {ARROW(0, 1) | ARROW(1, 0)}, 2, 3, NULL, NULL},
     {"F", 2, 1, STATE(0), STATE(1), {ARROW(0, 1) | ARROW(1, 1)}, 2, 1, NULL, NULL},
     {"G", 1, 1, 0, STATE(0), {ARROW(0, 0)}, 1, 1, "", " 0"},
     {"H", 2, 2, STATE(0), STATE(1), {ARROW(0, 0), ARROW(0, 0) | ARROW(0, 1) | ARROW(1, 1)}, 2, 3, "", " 0"},
 };
+#define COUNT(list) (sizeof list / sizeof list[0])
 
-/* The verdict on a model with so much room for profiles and for words. */
-static CoverVerdict check(const Model *m, size_t profile_room, size_t word_room) {
-  return cover_verdict(m->n, m->k, m->start, m->home, m->arrows, 2, set_masks, COVER_SETS, set_from, COVER_SETS, set_event, COVER_SETS,
+/* What stands in memory before a call, so that it is seen what was written. */
+#define UNTOUCHED 77
+
+/* The verdict on a model with so much room. */
+static CoverVerdict check(const Model *m, size_t set_room, size_t profile_room, size_t word_room) {
+  memset(memory, UNTOUCHED, sizeof memory);
+  return cover_verdict(m->n, m->k, m->start, m->home, m->arrows, 2, set_masks, set_room, set_from, set_room, set_event, set_room,
                        profile_arrows, profile_room, profile_marks, profile_room, profile_from, profile_room, profile_event, profile_room,
-                       words, word_room);
+                       memory, word_room);
+}
+
+/* Something was written to the word memory past its first bytes. */
+static int touched_past(size_t bytes) {
+  for (size_t i = bytes; i < sizeof memory; i++)
+    if (memory[i] != UNTOUCHED)
+      return 1;
+  return 0;
 }
 
 /* Each event of a word after a space. */
@@ -50,19 +65,19 @@ static void spell(const uint8_t *word, size_t letters, char *out) {
 }
 
 static int differs(const Model *m, CoverVerdict r, const char *u, const char *v) {
-  if (r.number != COVER_DONE || r.sets != m->sets || r.profiles != m->profiles)
+  if (r.number != COVER_DONE || r.sets != m->sets || r.profiles != m->profiles || touched_past(r.u + r.v))
     return 1;
   if (m->v == NULL)
-    return r.verdict != COVER_COVERED;
+    return r.verdict != COVER_COVERED || r.u != 0 || r.v != 0;
   return r.verdict != COVER_UNCOVERED || strcmp(u, m->u) != 0 || strcmp(v, m->v) != 0;
 }
 
 /* Checks a model, prints what the check says, and says whether document 01 says otherwise. */
-static int show(const Model *m) {
+static int show(const Model *m, size_t profile_room) {
   static char u[4 * COVER_WORDS + 1], v[4 * COVER_WORDS + 1];
-  CoverVerdict r = check(m, COVER_PROFILES, COVER_WORDS);
-  spell(words, r.u, u);
-  spell(words + r.u, r.v, v);
+  CoverVerdict r = check(m, COVER_SETS, profile_room, COVER_WORDS);
+  spell(memory, r.u, u);
+  spell(memory + r.u, r.v, v);
   printf("%s: sets %zu, profiles %zu, ", m->name, r.sets, r.profiles);
   if (r.number != COVER_DONE)
     printf("refused %d\n", r.number);
@@ -73,37 +88,67 @@ static int show(const Model *m) {
   return differs(m, r, u, v);
 }
 
-/* A refusal at an edge: the number is what document 01 says, there is no verdict, and the word memory is as it was. */
-static int refused(const char *what, Model m, size_t profile_room, size_t word_room, uint8_t number) {
-  memset(words, 77, sizeof words);
-  CoverVerdict r = check(&m, profile_room, word_room);
-  int touched = 0;
-  for (size_t i = 0; i < sizeof words; i++)
-    touched |= words[i] != 77;
-  printf("%s: refused %d\n", what, r.number);
-  return r.number != number || r.verdict != COVER_NO_VERDICT || r.u != 0 || r.v != 0 || touched;
+typedef struct {
+  const char *what;
+  size_t set_room, profile_room, word_room;
+  /* what document 01 says */
+  uint8_t number;
+  size_t sets, profiles;
+} Refusal;
+
+/* A refusal: its number and counts are what document 01 says, there is no verdict, and the word memory is as it was. */
+static int show_refused(const Model *m, Refusal want) {
+  CoverVerdict r = check(m, want.set_room, want.profile_room, want.word_room);
+  printf("C %s: number %d, sets %zu, profiles %zu\n", want.what, r.number, r.sets, r.profiles);
+  return r.number != want.number || r.sets != want.sets || r.profiles != want.profiles || r.verdict != COVER_NO_VERDICT || r.u != 0 ||
+         r.v != 0 || touched_past(0);
 }
 
-int main(void) {
-  int faults = 0;
-  for (size_t i = 0; i < sizeof models / sizeof models[0]; i++)
-    faults += show(&models[i]);
-  const Model c = models[2];
-  Model none = c, nine = c, no_event = c, seventeen = c, missing = c, few = c;
+static int show_edges(void) {
+  const size_t S = COVER_SETS, P = COVER_PROFILES, W = COVER_WORDS;
+  Model none = C, nine = C, no_event = C, seventeen = C, three = C, missing = C;
   none.n = 0;
   nine.n = 9;
   no_event.k = 0;
   seventeen.k = 17;
+  three.k = 3;
   missing.start = STATE(2);
-  few.k = 3;
-  faults += refused("C without states", none, COVER_PROFILES, COVER_WORDS, COVER_OUT_OF_RANGE);
-  faults += refused("C with 9 states", nine, COVER_PROFILES, COVER_WORDS, COVER_OUT_OF_RANGE);
-  faults += refused("C without events", no_event, COVER_PROFILES, COVER_WORDS, COVER_OUT_OF_RANGE);
-  faults += refused("C with 17 events", seventeen, COVER_PROFILES, COVER_WORDS, COVER_OUT_OF_RANGE);
-  faults += refused("C with an event too many", few, COVER_PROFILES, COVER_WORDS, COVER_FEW_ARROWS);
-  faults += refused("C with a missing start state", missing, COVER_PROFILES, COVER_WORDS, COVER_MISSING_STATE);
-  faults += refused("C with room for 2 profiles", c, 2, COVER_WORDS, COVER_MORE_PROFILES);
-  faults += refused("C without word memory", c, COVER_PROFILES, 0, COVER_MORE_LETTERS);
+  return show_refused(&none, (Refusal){"without states", S, P, W, COVER_OUT_OF_RANGE, 0, 0}) +
+         show_refused(&nine, (Refusal){"with 9 states", S, P, W, COVER_OUT_OF_RANGE, 0, 0}) +
+         show_refused(&no_event, (Refusal){"without events", S, P, W, COVER_OUT_OF_RANGE, 0, 0}) +
+         show_refused(&seventeen, (Refusal){"with 17 events", S, P, W, COVER_OUT_OF_RANGE, 0, 0}) +
+         show_refused(&three, (Refusal){"with 3 events and 2 numbers of arrows", S, P, W, COVER_FEW_ARROWS, 0, 0}) +
+         show_refused(&missing, (Refusal){"with a missing start state", S, P, W, COVER_MISSING_STATE, 0, 0}) +
+         show_refused(&C, (Refusal){"with room for 1 set", 1, P, W, COVER_MORE_SETS, 1, 0}) +
+         show_refused(&C, (Refusal){"with room for 2 profiles", S, 2, W, COVER_MORE_PROFILES, 2, 2}) +
+         show_refused(&C, (Refusal){"without word memory", S, P, 0, COVER_MORE_LETTERS, 2, 3});
+}
+
+/* All seven slices of C's tables, each with a length of its own, and one place past the count. */
+static int show_tables(void) {
+  uint8_t masks[4] = {9, 9, 9, 9}, events[6] = {9, 9, 9, 9, 9, 9}, last[10] = {9, 9, 9, 9, 9, 9, 9, 9, 9, 9};
+  uint16_t from[5] = {9, 9, 9, 9, 9}, profile[9] = {9, 9, 9, 9, 9, 9, 9, 9, 9};
+  uint64_t leads[7] = {9, 9, 9, 9, 9, 9, 9}, marks[8] = {9, 9, 9, 9, 9, 9, 9, 9};
+  CoverVerdict r = cover_verdict(C.n, C.k, C.start, C.home, C.arrows, 2, masks, 4, from, 5, events, 6, leads, 7, marks, 8, profile, 9, last,
+                                 10, memory, sizeof memory);
+  for (size_t i = 0; i <= r.sets; i++)
+    printf("C's set %zu: %d %d %d\n", i, masks[i], from[i], events[i]);
+  for (size_t i = 0; i <= r.profiles; i++)
+    printf("C's profile %zu: %llu %llu %d %d\n", i, (unsigned long long)leads[i], (unsigned long long)marks[i], profile[i], last[i]);
+  return r.number != COVER_DONE;
+}
+
+int main(void) {
+  int faults = 0;
+  for (size_t i = 0; i < COUNT(before_c); i++)
+    faults += show(&before_c[i], COVER_PROFILES);
+  faults += show(&C, COVER_PROFILES);
+  for (size_t i = 0; i < COUNT(after_c); i++)
+    faults += show(&after_c[i], COVER_PROFILES);
+  faults += show_edges();
+  /* one place more than the refusal above had */
+  faults += show(&C, 3);
+  faults += show_tables();
   if (faults > 0)
     fprintf(stderr, "editor: %d of these are not what document 01 says\n", faults);
   return faults > 0;

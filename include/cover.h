@@ -1,12 +1,17 @@
-/* The check for an editor written in C: whether every course of a model is accepted, or one that is not.
+/* The check for an editor written in C: is every course of a model accepted, and if not, which one is not?
  *
- * Link target/staticlib/libcover.a (x86-64 Linux), which `rt staticlib cover` proves and writes. The call takes any numbers and any
- * memory: nothing has to be tested before it, and it always returns. It keeps no pointer, allocates nothing, and reads and writes only
- * what it is lent.
+ * A course is a beginning u, which may be empty, and a round v of at least one event. u is read once, and then v again and again without
+ * end. The model accepts the course if some start state has a way along its events, arrow by arrow, that comes past a home state again and
+ * again for ever.
  *
- * Each slice is a pointer and, behind it, how many elements it has (elements, not bytes). The caller owns every slice before, during and
- * after the call. A slice of length 0 is never read or written; give it a pointer that is not NULL. The slices that are written must not
- * overlap each other nor the arrows. The elements are the machine's own numbers of that width.
+ * Link target/staticlib/libcover.a (x86-64 Linux), which `rt staticlib cover` proves and writes. The call takes any numbers and slices of
+ * any length, refuses what it cannot check, and always returns. It keeps no pointer and allocates nothing. A word is rebuilt by a call for
+ * each of its letters, 64 bytes of stack each as it is built now: with words of up to 2,048 letters that is up to 128 KiB.
+ *
+ * What the caller sees to. Each slice is a pointer and, behind it, how many elements stand there (elements, not bytes). The pointer is not
+ * NULL and is aligned for its element, also where the length is 0. The slices that are written overlap neither each other nor the arrows.
+ * The caller owns all of them; the call borrows them until it returns, and meanwhile no other thread may use them. Several threads may
+ * call at the same time, each with its own slices.
  */
 #ifndef COVER_H
 #define COVER_H
@@ -18,57 +23,64 @@
 extern "C" {
 #endif
 
-/* Slices of these lengths are never too short for a model that the call takes: a refusal 4, 5 or 6 cannot come from the room lent. Then 5
- * says that the model has more than 2,048 profiles, and 4 and 6 do not come. */
+/* Room that is always enough: so many places in each of the three set slices, in each of the four profile slices, and so many bytes of word
+ * memory. With these 4 and 6 never come, and 5 comes only for a model with more than 2,048 profiles, which no room can help. Slices may be
+ * longer; what is behind these lengths is never touched. */
 #define COVER_SETS 256
 #define COVER_PROFILES 2048
 #define COVER_WORDS 2304
 
-/* What stands for "no predecessor" in set_from and profile_from, and for "no event" in set_event. */
+/* What stands for "none" in set_from and profile_from, and in set_event. */
 #define COVER_NO_ENTRY 65535
 #define COVER_NO_EVENT 255
 
-/* CoverVerdict.number: what the check came to. */
-#define COVER_DONE 0           /* a verdict is given */
-#define COVER_OUT_OF_RANGE 1   /* n is not 1 to 8, or k is not 1 to 16 */
-#define COVER_FEW_ARROWS 2     /* arrows has fewer than k numbers */
-#define COVER_MISSING_STATE 3  /* a bit of start, home or arrows names a state that is n or above */
-#define COVER_MORE_SETS 4      /* more sets than room: the shortest of the three set slices, at most 256 */
-#define COVER_MORE_PROFILES 5  /* more profiles than room: the shortest of the four profile slices, at most 2,048 */
-#define COVER_MORE_LETTERS 6   /* not covered, and u and v together are longer than the word memory */
+/* CoverVerdict.number: 0, or why there is no verdict. Of several reasons the first in this list is given. */
+#define COVER_DONE 0          /* a verdict is given */
+#define COVER_OUT_OF_RANGE 1  /* n is not 1 to 8, or k is not 1 to 16 */
+#define COVER_FEW_ARROWS 2    /* arrows has fewer than k numbers */
+#define COVER_MISSING_STATE 3 /* a bit of start, home or one of the first k arrows names a state that is n or above */
+#define COVER_MORE_SETS 4     /* the model has more sets than room: the shortest of the three set slices, at most 256 */
+#define COVER_MORE_PROFILES 5 /* the model has more profiles than room: the shortest of the four profile slices, at most 2,048 */
+#define COVER_MORE_LETTERS 6  /* the model is not covered, and u and v together have more letters than the word memory has bytes */
 
-/* CoverVerdict.verdict: what is said of the model; COVER_NO_VERDICT with every number but COVER_DONE. */
-#define COVER_NO_VERDICT 0
-#define COVER_COVERED 1   /* every course is accepted */
-#define COVER_UNCOVERED 2 /* the course u, v in the word memory is not accepted */
+/* CoverVerdict.verdict */
+#define COVER_NO_VERDICT 0 /* with every number but COVER_DONE */
+#define COVER_COVERED 1    /* every course is accepted */
+#define COVER_UNCOVERED 2  /* the course u, v that now stands in the word memory is not */
 
-typedef struct {
-  uint8_t number;  /* one of the first list above */
-  uint8_t verdict; /* one of the second */
-  size_t sets;     /* how many sets stand in the set slices: all, or as many as there was room after 4; 0 after 1, 2, 3 */
-  size_t profiles; /* how many profiles stand in the profile slices: all, or as many as there was room after 5; 0 after 1, 2, 3, 4 */
+/* The answer. Compare it field by field: there are unused bytes between the fields. */
+typedef struct CoverVerdict {
+  uint8_t number;
+  uint8_t verdict;
+  size_t sets;     /* how many sets stand in the set slices: after 0, 5 and 6 all; after 4 as many as there is room; after 1, 2 and 3 none */
+  size_t profiles; /* the same of profiles: after 0 and 6 all; after 5 as many as there is room; after 1 to 4 none */
   size_t u;        /* how many letters u has; 0 unless the verdict is COVER_UNCOVERED */
   size_t v;        /* how many letters v has; 0 unless the verdict is COVER_UNCOVERED, and then at least 1 */
 } CoverVerdict;
 
-/* The verdict on a model. Everything past a count is left as it was, in every slice and after every number. */
+/* The verdict on a model.
+ *
+ * The sets and profiles are what the verdict was found from; an editor need not read them. A set has the states that some word of events
+ * leads to from the start states. A profile says of some word of one event or more from which state to which it leads, and whether that is
+ * marked: it can come to a home state on its way. They are numbered by their place in the slices, from 0. In every slice everything past
+ * the count is left as it was, whatever the number. */
 CoverVerdict cover_verdict(
-    size_t n,     /* how many states: they are 0 to n-1 */
-    size_t k,     /* how many events: they are 0 to k-1 */
+    size_t n,      /* how many states, 1 to 8: they are 0 to n-1 */
+    size_t k,      /* how many events, 1 to 16: they are 0 to k-1 */
     uint8_t start, /* bit q: state q is a start state */
     uint8_t home,  /* bit q: state q is a home state */
-    const uint64_t *arrows, size_t arrows_length, /* a number for each event, bit 8*p+q: it leads from p to q; only the first k are read */
-    /* written, one place a set: */
+    const uint64_t *arrows, size_t arrows_length, /* read; k numbers or more, one an event, the rest not read. Bit 8*p+q: it leads p to q */
+    /* written, a place for each set; COVER_SETS places are always enough */
     uint8_t *set_masks, size_t set_masks_length, /* bit q: state q is in the set */
-    uint16_t *set_from, size_t set_from_length,  /* the number of the set it came from, or COVER_NO_ENTRY */
-    uint8_t *set_event, size_t set_event_length, /* the last event of its word, or COVER_NO_EVENT */
-    /* written, one place a profile: */
-    uint64_t *profile_arrows, size_t profile_arrows_length, /* bit 8*p+q: p leads to q */
-    uint64_t *profile_marks, size_t profile_marks_length,   /* bit 8*p+q: that is marked */
-    uint16_t *profile_from, size_t profile_from_length,     /* the number of the profile it came from, or COVER_NO_ENTRY */
-    uint8_t *profile_event, size_t profile_event_length,    /* the last event of its word */
-    /* written only when the verdict is COVER_UNCOVERED: u, and right behind it v, a byte for each event */
-    uint8_t *words, size_t words_length);
+    uint16_t *set_from, size_t set_from_length,  /* the set from which its last event leads here; COVER_NO_ENTRY for the start states */
+    uint8_t *set_event, size_t set_event_length, /* that event; COVER_NO_EVENT for the start states */
+    /* written, a place for each profile; COVER_PROFILES places are always enough */
+    uint64_t *profile_arrows, size_t profile_arrows_length, /* bit 8*p+q: the word leads p to q */
+    uint64_t *profile_marks, size_t profile_marks_length,   /* bit 8*p+q: and that is marked */
+    uint16_t *profile_from, size_t profile_from_length,     /* the profile of the word without its last event; COVER_NO_ENTRY for one event */
+    uint8_t *profile_event, size_t profile_event_length,    /* its last event */
+    /* written when the verdict is COVER_UNCOVERED, and only then: u, and right behind it v, a byte for each event; COVER_WORDS are enough */
+    uint8_t *memory, size_t memory_length);
 
 #ifdef __cplusplus
 }

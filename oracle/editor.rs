@@ -1,44 +1,24 @@
-//! What the C editor must print: the hand-worked models, and C at the edges of what is refused.
+//! What the C editor must print: the hand-worked models, C at the edges of what is refused, and C's tables.
 
 use crate::course::letters;
 use crate::model::{hand_worked, named, Model, Verdict};
-use crate::tables::{Tables, MOST_PROFILES};
+use crate::tables::{Entry, Tables, MOST_PROFILES, MOST_SETS};
+
+const MOST_WORDS: usize = 2_304;
+/// What stands in C's slices before the call.
+const BEFORE: u64 = 9;
 
 pub fn print() -> i32 {
     for row in hand_worked() {
-        println!("{}: {}", row.name, model_line(&row.model));
+        println!("{}: {}", row.name, verdict(&row.model));
     }
-    let c = || named("C");
-    let most_words = 2_304;
-    let most = MOST_PROFILES;
-    let edges = [
-        ("without states", Model { n: 0, ..c() }, most, most_words),
-        ("with 9 states", Model { n: 9, ..c() }, most, most_words),
-        ("without events", Model { k: 0, ..c() }, most, most_words),
-        ("with 17 events", Model { k: 17, ..c() }, most, most_words),
-        (
-            "with an event too many",
-            Model { k: 3, ..c() },
-            most,
-            most_words,
-        ),
-        (
-            "with a missing start state",
-            Model { start: 4, ..c() },
-            most,
-            most_words,
-        ),
-        ("with room for 2 profiles", c(), 2, most_words),
-        ("without word memory", c(), most, 0),
-    ];
-    for (what, model, profile_room, word_room) in edges {
-        let number = refusal(&model, profile_room, word_room);
-        println!("C {}: refused {}", what, number);
-    }
+    print_edges();
+    println!("C: {}", verdict(&named("C")));
+    print_tables(&named("C"));
     0
 }
 
-fn model_line(model: &Model) -> String {
+fn verdict(model: &Model) -> String {
     let tables = Tables::close(model, None, None);
     let verdict = match tables.verdict() {
         None => format!("refused {}", tables.refusal()),
@@ -51,14 +31,60 @@ fn model_line(model: &Model) -> String {
     format!("sets {}, profiles {}, {}", sets, profiles, verdict)
 }
 
-fn refusal(model: &Model, profile_room: usize, word_room: usize) -> u8 {
-    if model.refusal() != 0 {
-        return model.refusal();
+fn print_edges() {
+    let c = || named("C");
+    let (s, p, w) = (MOST_SETS, MOST_PROFILES, MOST_WORDS);
+    let few = "with 3 events and 2 numbers of arrows";
+    let missing = "with a missing start state";
+    print_number("without states", Model { n: 0, ..c() }, s, p, w);
+    print_number("with 9 states", Model { n: 9, ..c() }, s, p, w);
+    print_number("without events", Model { k: 0, ..c() }, s, p, w);
+    print_number("with 17 events", Model { k: 17, ..c() }, s, p, w);
+    print_number(few, Model { k: 3, ..c() }, s, p, w);
+    print_number(missing, Model { start: 4, ..c() }, s, p, w);
+    print_number("with room for 1 set", c(), 1, p, w);
+    print_number("with room for 2 profiles", c(), s, 2, w);
+    print_number("without word memory", c(), s, p, 0);
+}
+
+fn print_number(what: &str, model: Model, sets: usize, profiles: usize, words: usize) {
+    let mut counts = (model.refusal(), 0, 0);
+    if counts.0 == 0 {
+        let tables = Tables::close(&model, Some(sets), Some(profiles));
+        let (sets, profiles) = (tables.sets.entries.len(), tables.profiles.entries.len());
+        let number = match tables.verdict() {
+            None => tables.refusal(),
+            Some(Verdict::Uncovered((u, v))) if u.len() + v.len() > words => 6,
+            Some(_) => 0,
+        };
+        counts = (number, sets, profiles);
     }
-    let tables = Tables::close(model, None, Some(profile_room));
-    match tables.verdict() {
-        None => tables.refusal(),
-        Some(Verdict::Uncovered((u, v))) if u.len() + v.len() > word_room => 6,
-        Some(_) => 0,
+    let (number, sets, profiles) = counts;
+    println!("C {what}: number {number}, sets {sets}, profiles {profiles}");
+}
+
+/// The entries, and the place past the last one.
+fn print_tables(model: &Model) {
+    let tables = Tables::close(model, None, None);
+    let sets = tables.sets.entries.iter();
+    print_rows("set", sets.map(|set| row(vec![set.value.into()], set)));
+    let profiles = tables.profiles.entries.iter().map(|profile| {
+        let value = vec![profile.value.arrows(), profile.value.marks()];
+        row(value, profile)
+    });
+    print_rows("profile", profiles);
+}
+
+fn row<V>(mut value: Vec<u64>, entry: &Entry<V>) -> Vec<u64> {
+    value.extend([entry.predecessor as u64, entry.event.into()]);
+    value
+}
+
+fn print_rows(name: &str, rows: impl Iterator<Item = Vec<u64>>) {
+    let mut rows: Vec<Vec<u64>> = rows.collect();
+    rows.push(vec![BEFORE; rows[0].len()]);
+    for (number, row) in rows.iter().enumerate() {
+        let columns: String = row.iter().map(|x| format!(" {}", x)).collect();
+        println!("C's {} {}:{}", name, number, columns);
     }
 }

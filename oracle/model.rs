@@ -124,6 +124,18 @@ pub fn hand_worked() -> Vec<HandWorked> {
     ]
 }
 
+/// Models that see errors which A to H let through: two states that swap, two that lead to both, C without home, and a way there and back.
+pub fn own_models() -> Vec<Model> {
+    let swap: &[(usize, usize)] = &[(0, 1), (1, 0)];
+    let both: &[(usize, usize)] = &[(0, 0), (0, 1), (1, 0), (1, 1)];
+    vec![
+        from_lists(2, &[0, 1], &[1], &[swap]),
+        from_lists(2, &[0, 1], &[1], &[both]),
+        from_lists(2, &[0], &[], &[&[(0, 1), (1, 1)], &[(0, 0), (1, 0)]]),
+        from_lists(2, &[0], &[], &[&[(0, 1)], &[(1, 0)]]),
+    ]
+}
+
 pub fn named(name: &str) -> Model {
     let found = hand_worked().into_iter().find(|case| case.name == name);
     found.expect("a hand-worked model").model

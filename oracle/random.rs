@@ -94,7 +94,7 @@ impl Random {
         (self.word(k, before), self.word(k, round))
     }
 
-    fn word(&mut self, k: usize, length: usize) -> Vec<u8> {
+    pub fn word(&mut self, k: usize, length: usize) -> Vec<u8> {
         (0..length).map(|_| self.below(k) as u8).collect()
     }
 }

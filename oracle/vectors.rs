@@ -2,9 +2,10 @@
 //! of them.
 
 use crate::course::{accepts, Course};
-use crate::model::{bit, hand_worked, named, Model, Verdict};
+use crate::model::{bit, hand_worked, named, own_models, Model, Verdict};
 use crate::random::Random;
 use crate::tables::{Entry, Tables};
+use std::collections::HashSet;
 use std::fs;
 use std::path::Path;
 
@@ -40,10 +41,14 @@ const WORDS: usize = 7;
 const WHOLE: [usize; SLICES] = [260, 260, 260, 2_052, 2_052, 2_052, 2_052, 2_308];
 const LONGEST: usize = 65_537;
 const MANY: usize = 600;
+/// What is printed of a course that is judged, beside the numbers of refusals.
+const ACCEPTED: u8 = 100;
+const REJECTED: u8 = 101;
 
 /// Writes the cases to `stdin` and what the library must print of them to `stdout`.
 pub fn write(folder: &Path) -> i32 {
     let cases = cases();
+    assert_wide(&cases);
     let bytes: Vec<u8> = cases.iter().flat_map(stored).collect();
     let lines: Vec<String> = cases.iter().flat_map(lines).collect();
     let written = fs::create_dir_all(folder)
@@ -84,6 +89,41 @@ fn stored(case: &Case) -> Vec<u8> {
         }
     }
     bytes
+}
+
+/// That the cases hold what is claimed of them: with memory enough every refusal that can come, both verdicts, words of 50 letters and a
+/// verdict on 256 sets; and courses with u and v of every length, accepted and not.
+fn assert_wide(cases: &[Case]) {
+    let all = cases.iter().filter(|case| case.asked == Asked::All);
+    let seen: Vec<Seen> = all
+        .map(|case| run(case, Call::Verdict, WHOLE, WHOLE, 1))
+        .collect();
+    for number in [0, 1, 2, 3, 5] {
+        assert!(seen.iter().any(|seen| seen.number == number));
+    }
+    let some = |test: &dyn Fn(&Seen) -> bool| seen.iter().any(test);
+    assert!(some(&|seen| seen.verdict == 1 && seen.sets > 8));
+    assert!(some(&|seen| seen.u == 50 && seen.v == 50));
+    assert!(some(&|seen| seen.verdict == 2
+        && seen.sets == 256
+        && seen.profiles > 2_000));
+    let mut judgements = HashSet::new();
+    for case in cases {
+        if let Asked::Courses(courses) = &case.asked {
+            let judge = |(u, v): &Course| (u.len(), v.len(), judged(case, u, v));
+            judgements.extend(courses.iter().map(judge));
+        }
+    }
+    for answer in [ACCEPTED, REJECTED] {
+        let given = |&&(_, _, other): &&(usize, usize, u8)| other == answer;
+        let (u, v): (HashSet<usize>, HashSet<usize>) = judgements
+            .iter()
+            .filter(given)
+            .map(|&(u, v, _)| (u, v))
+            .unzip();
+        assert!((0..=MOST_LETTERS).all(|length| u.contains(&length)));
+        assert!((1..=MOST_LETTERS).all(|length| v.contains(&length)));
+    }
 }
 
 /// The same model many times, each to be closed once, and the line that the library must print for each.
@@ -173,7 +213,7 @@ fn run(case: &Case, call: Call, whole: Lengths, lengths: Lengths, seed: u64) -> 
             vec![profile.arrows(), profile.marks()]
         });
         if call == Call::Verdict {
-            seen.judge(tables.verdict(), lent(WORDS), &mut memory.slices[WORDS]);
+            seen.conclude(tables.verdict(), lent(WORDS), &mut memory.slices[WORDS]);
         }
     }
     let counts = [seen.number.into(), seen.sets as u64, seen.profiles as u64];
@@ -189,7 +229,7 @@ fn run(case: &Case, call: Call, whole: Lengths, lengths: Lengths, seed: u64) -> 
 
 impl Seen {
     /// u and then v go to the word memory if both fit into what is lent of it.
-    fn judge(&mut self, verdict: Option<Verdict>, lent: usize, words: &mut [u64]) {
+    fn conclude(&mut self, verdict: Option<Verdict>, lent: usize, words: &mut [u64]) {
         match verdict {
             None => {}
             Some(Verdict::Covered) => self.verdict = 1,
@@ -280,19 +320,19 @@ fn short_line(case: &Case, call: Call, short: usize, full: &Seen) -> String {
     format!("{}{}", numbers(&runs), sum)
 }
 
-/// All slices of different lengths: just enough, one profile too few, and one set too few as well.
+/// All slices of different lengths: just enough, one profile too few, and one set too few as well, both with no word memory.
 fn different_line(case: &Case, call: Call, full: &Seen) -> String {
     let (sets, profiles) = (full.sets, full.profiles);
     let fewer = profiles.saturating_sub(1);
     let tried = [
-        (sets, profiles, 0, 7),
-        (sets, fewer, 5, 8),
-        (sets.saturating_sub(1), fewer, 10, 9),
+        (sets, profiles, full.u + full.v, 0, 7),
+        (sets, fewer, 0, 5, 8),
+        (sets.saturating_sub(1), fewer, 0, 10, 9),
     ];
-    let runs = tried.map(|(sets, profiles, turn, seed)| {
+    let runs = tried.map(|(sets, profiles, words, turn, seed)| {
         let length = |slice: usize| match slice {
             0..=2 => sets + (turn + slice) % 3,
-            WORDS => full.u + full.v,
+            WORDS => words,
             _ => profiles + (turn + slice - 3) % 4,
         };
         run(case, call, WHOLE, std::array::from_fn(length), seed)
@@ -301,7 +341,6 @@ fn different_line(case: &Case, call: Call, full: &Seen) -> String {
     format!("{}{}", numbers(&runs), sum)
 }
 
-/// For each course 100 if it is accepted, 101 if it is not, or the number of the refusal.
 fn judged_line(case: &Case, courses: &[Course]) -> String {
     let answers = courses.iter().map(|(u, v)| judged(case, u, v).to_string());
     answers.collect::<Vec<String>>().join(" ")
@@ -312,8 +351,8 @@ fn judged(case: &Case, u: &[u8], v: &[u8]) -> u8 {
     match refusal(case) {
         0 if v.is_empty() => 10,
         0 if u.iter().chain(v).any(unknown) => 9,
-        0 if accepts(&case.model.machine(), u, v) => 100,
-        0 => 101,
+        0 if accepts(&case.model.machine(), u, v) => ACCEPTED,
+        0 => REJECTED,
         number => number,
     }
 }
@@ -338,6 +377,7 @@ fn cases() -> Vec<Case> {
         .into_iter()
         .map(|row| plain(row.model))
         .collect();
+    cases.extend(own_models().into_iter().map(plain));
     cases.extend(edges());
     cases.extend(named_missing());
     cases.extend(long());
@@ -368,33 +408,33 @@ fn cases() -> Vec<Case> {
     cases
 }
 
-/// Short courses of the hand-worked models, all of them, then what is refused, then random models with courses of up to 40 letters.
+/// All short courses of the small models, courses that go round often, what is refused, then random models with u and v of every length.
 fn courses() -> Vec<Case> {
-    let short = |k: usize| {
-        let mut courses = Vec::new();
-        for v in words_up_to(k, 3).into_iter().skip(1) {
-            courses.extend(words_up_to(k, 3).into_iter().map(|u| (u, v.clone())));
-        }
-        courses
-    };
-    let mut cases: Vec<Case> = hand_worked()
-        .into_iter()
-        .map(|row| judging(plain(row.model.clone()), short(row.model.k)))
+    let small = hand_worked().into_iter().map(|row| row.model);
+    let mut cases: Vec<Case> = small
+        .chain(own_models())
+        .map(|model| judging(plain(model.clone()), short_courses(model.k)))
         .collect();
+    cases.extend(rings().into_iter().map(plain).map(|case| {
+        let courses = words_up_to(1, 9);
+        let courses = courses.into_iter().map(|u| (u, vec![0])).collect();
+        judging(case, courses)
+    }));
     for case in edges().into_iter().chain(named_missing()) {
-        let k = case.k.clamp(1, 255) as u8;
-        cases.push(judging(case, refused_courses(k)));
+        let k = case.k.clamp(1, 200) as u8;
+        cases.push(judging(case, edge_courses(k)));
     }
     let mut random = Random::new(5);
-    for round in 0..300 {
+    for round in 0..200 {
         let model = if round % 3 == 0 {
             random.model_up_to(8, 16)
         } else {
             random.model()
         };
-        let lengths = [1, 3, 8, 20, MOST_LETTERS];
-        let courses = (0..40).map(|i| random.course(model.k, lengths[i % 5]));
-        let courses = courses.collect();
+        // Every length of u from 0 to 40 and, since 41 and 7 share no factor, every length of v from 1 to 40.
+        let lengths = (0..=MOST_LETTERS).map(|i| (i, 1 + i * 7 % 41 % MOST_LETTERS));
+        let course = |(u, v)| (random.word(model.k, u), random.word(model.k, v));
+        let courses = lengths.map(course).collect();
         cases.push(judging(plain(model), courses));
     }
     cases.extend((0..60).map(|_| {
@@ -403,6 +443,37 @@ fn courses() -> Vec<Case> {
         judging(damaged(&mut random, model), courses)
     }));
     cases
+}
+
+fn short_courses(k: usize) -> Vec<Course> {
+    let words = words_up_to(k, 3);
+    let rounds = words.iter().filter(|v| !v.is_empty());
+    let with =
+        |v: &Vec<u8>| -> Vec<Course> { words.iter().map(|u| (u.clone(), v.clone())).collect() };
+    rounds.flat_map(with).collect()
+}
+
+/// One event alone: a ring of eight; rings of three and five, begun in either, home in one; a line into a loop, home in the loop or not.
+fn rings() -> Vec<Model> {
+    let model = |start, home, arrows| Model {
+        n: 8,
+        k: 1,
+        start,
+        home,
+        arrows: vec![arrows],
+    };
+    let to = |next: &dyn Fn(usize) -> usize| (0..8).fold(0, |all, p| all | bit(p, next(p)));
+    let eight = to(&|p| (p + 1) % 8);
+    let three_five = to(&|p| if p < 3 { (p + 1) % 3 } else { 3 + (p - 2) % 5 });
+    let line = to(&|p| (p + 1).min(7));
+    vec![
+        model(1, 16, eight),
+        model(1, 8, three_five),
+        model(8, 8, three_five),
+        model(9, 64, three_five),
+        model(1, 128, line),
+        model(1, 64, line),
+    ]
 }
 
 fn judging(case: Case, courses: Vec<Course>) -> Case {
@@ -427,12 +498,12 @@ fn words_up_to(k: usize, most: usize) -> Vec<Vec<u8>> {
     words
 }
 
-/// Courses at every edge: no round, letters k, above k and 255, in u and in v, first and last, and two faults at once.
-fn refused_courses(k: u8) -> Vec<Course> {
+/// Courses at every edge: no round; the letters k, k + 1, 128 and 255, in u and in v, first and last; two faults at once.
+fn edge_courses(k: u8) -> Vec<Course> {
     let last = k - 1;
     let many = |letter: u8| vec![letter; MOST_LETTERS];
     let late = |letter: u8| [vec![0; MOST_LETTERS - 1], vec![letter]].concat();
-    vec![
+    let mut courses = vec![
         (vec![], vec![]),
         (vec![0], vec![]),
         (vec![k], vec![]),
@@ -440,19 +511,24 @@ fn refused_courses(k: u8) -> Vec<Course> {
         (vec![], vec![0]),
         (vec![], vec![last]),
         (vec![last], vec![last]),
-        (vec![], vec![k]),
-        (vec![k], vec![0]),
         (vec![k], vec![k]),
-        (vec![255], vec![0]),
-        (vec![0], vec![255]),
-        (late(k), vec![0]),
-        (vec![0], late(k)),
         (late(last), late(last)),
         (many(0), many(last)),
         (many(last), many(0)),
-        (vec![0, k, 0], vec![0]),
-        (vec![0], vec![0, k, 0]),
-    ]
+    ];
+    for letter in [k, k + 1, 128, 255] {
+        for word in [
+            vec![letter],
+            vec![letter, 0],
+            vec![0, letter, 0],
+            late(letter),
+        ] {
+            courses.push((word.clone(), vec![0]));
+            courses.push((vec![], word.clone()));
+            courses.push((vec![0], word));
+        }
+    }
+    courses
 }
 
 /// C with one thing changed in each: every refusal at its edge, and what is not refused.
@@ -549,7 +625,8 @@ fn long() -> Vec<Case> {
         .into()
 }
 
-/// At the limits: 2,047 profiles, 2,048 of them, more than that, and all 256 sets.
+/// At the limits: 2,047 profiles, 2,048 of them, more than that, more than that with 256 sets; then 50 letters for u and for v, and 256 sets
+/// of which only the last rejects, with 255 profiles and with 2,041.
 pub fn large() -> Vec<Model> {
     let model = |n, k, start, home, arrows: &[u64]| Model {
         n,
@@ -565,11 +642,15 @@ pub fn large() -> Vec<Model> {
     ];
     let loops = (0..8).fold(0, |all, p| all | bit(p, p));
     let turn = (0..8).fold(0, |all, p| all | bit(p, (p + 1) % 8));
+    let without: Vec<u64> = (0..8).map(|p| loops & !bit(p, p)).collect();
     vec![
         model(4, 3, 1, 8, &[17_304_584, 16_910_337, 33_816_840]),
         model(5, 3, 1, 1, &[17_213_556_741, 8_606_843_912, 68_753_294_340]),
         model(8, 3, 1, 128, &more),
         model(8, 3, 1, 2, &[turn, loops | bit(0, 1), loops & !bit(0, 0)]),
+        model(8, 1, 1, 0, &[turn | bit(7, 1)]),
+        model(8, 8, 255, 255, &without),
+        model(8, 9, 255, 255, &[without, vec![turn]].concat()),
     ]
 }
 

@@ -15,7 +15,7 @@ use Rattle.laws.proofs.Answered.{verdict-refused, verdict-answers}
 use Rattle.cover.specs.Values.{asked}
 use Rattle.cover.specs.Memory.{setMemory, profileMemory, setsIn, profilesIn, SetsLent, ProfilesLent}
 use Rattle.cover.specs.Closing as closing
-use Rattle.cover.specs.Verdicts.{told, isCovered, tells, given, due, Judges, Stored, wholly, Concludes}
+use Rattle.cover.specs.Verdicts.{told, isCovered, tells, given, due, GivesVerdict, Stored, wholly, Concludes}
 use Rattle.cover.specs.declared.model.Model.{Model}
 use Rattle.cover.specs.declared.Closed.{Closed}
 use Rattle.cover.specs.declared.answer.Answer.{Answer}
@@ -94,7 +94,7 @@ module _ {m : Model} {arrows : List ℕ} {S S′ : SetSlices} {T T′ : ProfileS
 
   -- an answer that tells what document 01's tells gives a verdict that is right
   judged : {memory memory′ : List ℕ} {answer : Answer} → told answer ≡ tells (due m arrows S T memory)
-      → memory′ ≡ wordMemory (due m arrows S T memory) memory → Judges m arrows S S′ T T′ memory memory′ answer
+      → memory′ ≡ wordMemory (due m arrows S T memory) memory → GivesVerdict m arrows S S′ T T′ memory memory′ answer
   unfolding verdictIn tells
   judged {memory} {memory′} {answer} answered written =
       record { closed = closed; closing = c; answered = answered; word-memory = written; right = right }
@@ -111,12 +111,12 @@ module _ {m : Model} {arrows : List ℕ} {S S′ : SetSlices} {T T′ : ProfileS
 
   -- A REFUSAL of closing is the verdict's, and nothing goes to the word memory
   pub refuses : (memory : List ℕ) → (closed .number ≡ 0 → ⊥)
-      → Judges m arrows S S′ T T′ memory memory (Refused (closed .number) (closed .sets) (closed .profiles))
+      → GivesVerdict m arrows S S′ T T′ memory memory (Refused (closed .number) (closed .sets) (closed .profiles))
   unfolding verdictIn verdictAnswer closingIn told tells isCovered wordMemory words uAndV over
   refuses memory refused = go (closed .number) refl
     where
       go : (n : ℕ) → closed .number ≡ n
-          → Judges m arrows S S′ T T′ memory memory (Refused (closed .number) (closed .sets) (closed .profiles))
+          → GivesVerdict m arrows S S′ T T′ memory memory (Refused (closed .number) (closed .sets) (closed .profiles))
       go zero e = absurd (refused e)
       go (suc n) e =
           let d = verdict-refused 8 (closing.due m arrows S T) (length memory) n (sym (c .number) ∙ e) in
@@ -166,7 +166,7 @@ module _ {m : Model} {arrows : List ℕ} {S S′ : SetSlices} {T T′ : ProfileS
 
     -- WHAT FOLLOWS from them is what is due
     pub judges : {memory memory′ : List ℕ} {answer : Answer} → Concludes P Q memory memory′ answer
-        → Judges m arrows S S′ T T′ memory memory′ answer
+        → GivesVerdict m arrows S S′ T T′ memory memory′ answer
     unfolding verdictIn verdictAnswer closingIn
     judges {memory} d =
         let same : verdictFrom 8 (wholly P Q) (length memory) ≡ due m arrows S T memory =

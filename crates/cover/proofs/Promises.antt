@@ -17,7 +17,7 @@ use Rattle.laws.proofs.Read.{first-numbers}
 use Rattle.cover.specs.Values.{asked}
 use Rattle.cover.specs.Memory.{Kept}
 use Rattle.cover.specs.Closing.{Closing, due}
-use Rattle.cover.specs.Verdicts.{told, tells, Judges, due as verdict-due}
+use Rattle.cover.specs.Verdicts.{told, tells, GivesVerdict, due as verdict-due}
 use Rattle.cover.specs.Editor.{inNumbers, Exports}
 use Rattle.cover.specs.Courses.{number, accepted, isSaid, JudgesCourse}
 use Rattle.cover.specs.declared.Closed.{Closed}
@@ -128,10 +128,10 @@ told-once a b e =
     go (Refused k s p) (Refused l t q) c n g h i j = cc
 
 module _ {m : Model} {arrows : List ℕ} {S S′ : SetSlices} {T T′ : ProfileSlices} {memory memory′ : List ℕ} where
-  module _ {answer : Answer} (j : Judges m arrows S S′ T T′ memory memory′ answer) where
+  module _ {answer : Answer} (j : GivesVerdict m arrows S S′ T T′ memory memory′ answer) where
     -- THE VERDICT has one result: the answer, and what all lent memory holds
     pub one-verdict : {S″ : SetSlices} {T″ : ProfileSlices} {memory″ : List ℕ} {other : Answer}
-        → Judges m arrows S S″ T T″ memory memory″ other → (answer ≡ other) × (S′ ≡ S″) × (T′ ≡ T″) × (memory′ ≡ memory″)
+        → GivesVerdict m arrows S S″ T T″ memory memory″ other → (answer ≡ other) × (S′ ≡ S″) × (T′ ≡ T″) × (memory′ ≡ memory″)
     one-verdict k =
         let (_, sets, profiles) = one-closing (j .closing) (k .closing) in
         (told-once answer _ (j .answered ∙ sym (k .answered)), sets, profiles, j .word-memory ∙ sym (k .word-memory))

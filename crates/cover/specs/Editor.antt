@@ -3,7 +3,7 @@ use Prim.Native.Nat.{ℕ}
 use mathlib.Core.Path.{_≡_}
 use mathlib.Core.List.{List}
 use Rattle.laws.specs.Answers.{SetSlices, ProfileSlices}
-use Rattle.cover.specs.Verdicts.{Judges}
+use Rattle.cover.specs.Verdicts.{GivesVerdict}
 use Rattle.cover.specs.declared.model.Model.{Model}
 use Rattle.cover.specs.declared.answer.Answer.{Answer}
 use Rattle.cover.specs.declared.answer.Answer.the-variants.{Covered, Uncovered, Refused}
@@ -19,5 +19,5 @@ inNumbers (Refused n s p) = record { number = n; verdict = 0; sets = s; profiles
 pub record Exports (m : Model) (arrows : List ℕ) (S S′ : SetSlices) (T T′ : ProfileSlices) (memory memory′ : List ℕ)
     (result : CoverVerdict) : Type 0 where
   pub answer : Answer
-  pub judges : Judges m arrows S S′ T T′ memory memory′ answer
+  pub judges : GivesVerdict m arrows S S′ T T′ memory memory′ answer
   pub numbers : result ≡ inNumbers answer

@@ -1,4 +1,5 @@
--- What stands in lent slices: the entries in their first places, what must hold of them before a call, and what filling a table leaves.
+-- What stands in lent slices: the entries in their first places, what must hold of them before a call, what filling a table leaves, the
+-- word of an entry, and what placing two words leaves in the word memory.
 use Prim.Native.Nat.{ℕ, _<_, _≤_}
 use mathlib.Core.Path.{_≡_}
 use mathlib.Core.Bool.{false, cond}

@@ -5,7 +5,6 @@ use mathlib.Core.Bool.{Bool, true, false}
 use mathlib.Core.List.{List}
 use mathlib.Core.Option.{Option, none, some}
 use lib.ListN.{length, take, drop}
-use Rattle.laws.specs.Words.{Word}
 use Rattle.laws.specs.Model.{eight, machine}
 use Rattle.laws.specs.Profiles as paper
 use Rattle.laws.specs.Answers.{SetSlices, ProfileSlices, ClosingAnswer, VerdictAnswer, uAndV, verdictFrom, verdictIn, wordMemory}
@@ -62,7 +61,7 @@ module _ (m : Model) (arrows : List ℕ) where
   due S T memory = verdictIn eight (asked m arrows) S T memory
 
   -- THE CONTRACT OF THE VERDICT: S, T and memory are as they were lent, S′, T′ and memory′ as they are left
-  pub record Judges (S S′ : SetSlices) (T T′ : ProfileSlices) (memory memory′ : List ℕ) (answer : Answer) : Type 0 where
+  pub record GivesVerdict (S S′ : SetSlices) (T T′ : ProfileSlices) (memory memory′ : List ℕ) (answer : Answer) : Type 0 where
     -- what closing answers here, and by its contract what stands in the slices of sets and profiles
     pub closed : Closed
     pub closing : Closing m arrows S S′ T T′ closed
@@ -75,7 +74,8 @@ module _ (m : Model) (arrows : List ℕ) where
     pub right : told answer .number ≡ 0
         → (x : paper.Verdict) × (given answer memory′ ≡ some x) × paper.RightVerdict (machine 8 (asked m arrows)) (m .k) x
 
--- slices that hold a table each and nothing else, from which words can be rebuilt
+-- slices of which every place holds an entry, and from which words can be rebuilt; within the limits, so that the letters of two words can
+-- be added up
 pub record Stored (S : SetSlices) (T : ProfileSlices) : Type 0 where
   pub sets-linked : Linked (S .from) (S .event)
   pub profiles-linked : Linked (T .from) (T .event)

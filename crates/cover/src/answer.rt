@@ -1,8 +1,5 @@
 // What the verdict answers, and how it is found once sets and profiles are complete.
-ghost use Prim.Native.Nat.{_≤_};
-ghost use mathlib.Core.Path.{_≡_};
-ghost use lib.ListN.{length};
-ghost use Rattle.cover.specs.Memory.{setMemory, profileMemory, Linked};
+ghost use Rattle.cover.specs.Memory.{setMemory, profileMemory};
 ghost use Rattle.cover.specs.Verdicts.{Stored, Concludes};
 use crate::pairs;
 use crate::pairs::Pair;

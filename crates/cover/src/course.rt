@@ -1,14 +1,13 @@
 // One course, judged without tables.
-ghost use Prim.Native.Nat.{_<_};
 ghost use mathlib.Core.Path.{_≡_};
 ghost use mathlib.Core.Bool.{true, false};
 ghost use mathlib.Core.Logic.{_↔_};
 ghost use mathlib.Core.Option.{some};
 ghost use Rattle.laws.specs.Words.{lettersBelow, empty};
 ghost use Rattle.laws.specs.Model.{eight, machine, Accepted};
-ghost use Rattle.laws.specs.Refusals.{firstOf, courseChecks, Unrefused};
+ghost use Rattle.laws.specs.Refusals.{firstOf, courseChecks};
 ghost use Rattle.laws.specs.Profiles.{setOf, profileOf};
-ghost use Rattle.laws.specs.Repeats.{MarksLed, Repeats, acceptedFrom};
+ghost use Rattle.laws.specs.Repeats.{MarksLed, Repeats};
 ghost use Rattle.cover.specs.Values.{asked, profile};
 ghost use Rattle.cover.specs.Courses.{Readable};
 use crate::events::after;
@@ -91,7 +90,8 @@ fn profile_of_word(m: Model, arrows: &[u64], w: &[u8]) -> Profile
     t
 }
 
-// All repeats of a profile in one: joined with itself as often as that leads or marks anything more. Numbers that only grow end this.
+// All repeats of a profile in one: joined with itself as often as that leads or marks anything more. Each turn adds
+// at least one of 128 bits, so it ends.
 // A mark where t does not lead would spread to ways that no repeat of t marks.
 fn repeated(t: Profile) -> Profile
     requires { ⌜ MarksLed 8 (profile t) ⌝ }

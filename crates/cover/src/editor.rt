@@ -5,7 +5,14 @@ ghost use Rattle.cover.specs.Editor.{inNumbers, Exports};
 use crate::answer::Answer;
 use crate::model::Model;
 
-// The verdict's answer as numbers; include/cover.h declares the same. The verdict is 0 for none, 1 for "covered", 2 for "uncovered".
+// The verdict as a number; include/cover.h has the same.
+pub const NO_VERDICT: u8 = 0;
+
+pub const COVERED: u8 = 1;
+
+pub const UNCOVERED: u8 = 2;
+
+// The verdict's answer as numbers; include/cover.h declares the same.
 #[repr(C)]
 pub struct CoverVerdict {
     pub number: u8,
@@ -23,7 +30,7 @@ fn plain(answer: Answer) -> CoverVerdict
     match answer {
         Answer::Covered { sets, profiles } => CoverVerdict {
             number: 0,
-            verdict: 1,
+            verdict: COVERED,
             sets,
             profiles,
             u: 0,
@@ -36,7 +43,7 @@ fn plain(answer: Answer) -> CoverVerdict
             v,
         } => CoverVerdict {
             number: 0,
-            verdict: 2,
+            verdict: UNCOVERED,
             sets,
             profiles,
             u,
@@ -48,7 +55,7 @@ fn plain(answer: Answer) -> CoverVerdict
             profiles,
         } => CoverVerdict {
             number,
-            verdict: 0,
+            verdict: NO_VERDICT,
             sets,
             profiles,
             u: 0,

@@ -19,7 +19,7 @@ pub use course::Judgement;
 pub use model::Model;
 ghost use Rattle.cover.specs.Memory.{setMemory, profileMemory};
 ghost use Rattle.cover.specs.Closing.{Closing};
-ghost use Rattle.cover.specs.Verdicts.{Judges};
+ghost use Rattle.cover.specs.Verdicts.{GivesVerdict};
 ghost use Rattle.cover.specs.Courses.{JudgesCourse};
 
 // What closing answers: the number, and how many sets and profiles stand in the lent slices.
@@ -102,7 +102,7 @@ pub fn verdict(
     profile_event: &mut [u8],
     memory: &mut [u8],
 ) -> Answer
-    ensures { λ r. ⌜ Judges m (now (arrows .entry))
+    ensures { λ r. ⌜ GivesVerdict m (now (arrows .entry))
         (setMemory (now («set_masks» .entry)) (now («set_from» .entry)) (now («set_event» .entry)))
         (setMemory (now («set_masks» .exit)) (now («set_from» .exit)) (now («set_event» .exit)))
         (profileMemory (now («profile_arrows» .entry)) (now («profile_marks» .entry))

@@ -20,7 +20,7 @@ pub enum Pair {
     At { set: usize, profile: usize },
 }
 
-// r is in the set, and r to r is marked.
+// r is in the set, and the profile leads it back to itself with a mark.
 fn marks_at(set: u8, t: Profile, r: usize) -> bool
     requires { ⌜ r < 8 ⌝ }
     ensures { λ b. ⌜ b ≡ (bit set r && marked 8 (profile t) r r) ⌝ }
@@ -28,7 +28,7 @@ fn marks_at(set: u8, t: Profile, r: usize) -> bool
     has(set as u64, r) & has(t.marks, Model::STATES * r + r)
 }
 
-// Some state r of the set has a marked r to r.
+// Some state of the set is led back to itself with a mark.
 pub fn marks_round(set: u8, t: Profile) -> bool
     ensures { λ b. ⌜ b ≡ marksRound 8 set (profile t) ⌝ }
 {
@@ -57,7 +57,7 @@ fn is_rejecting(set: u8, t: Profile) -> bool
     !marks_round(set, t)
 }
 
-// The first rejecting pair, by set number and then profile number: the search stops at that pair.
+// Goes through the sets, and for each through all profiles, and leaves both loops at the first pair that rejects.
 pub fn first(masks: &[u8], arrows: &[u64], marks: &[u64]) -> Pair
     requires { ⌜ length (now marks) ≡ length (now arrows) ⌝ }
     ensures { λ r. ⌜ First (now (masks .entry)) (now (arrows .entry)) (now (marks .entry)) r ⌝ }

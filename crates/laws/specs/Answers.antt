@@ -142,7 +142,7 @@ uAndV (some (uncovered u v)) = (u, v)
 unfoldable pub words : Option Verdict → Word
 words r = uAndV r .0 ++ uAndV r .1
 
--- what follows an answer of closing, with a room for words: its refusal, or, without one, 6 if u and v together exceed the word memory
+-- the verdict's answer from that of closing: its refusal; 6 where there is less room than u and v have letters; else 0 and the verdict
 unfoldable pub verdictFrom : ℕ → ClosingAnswer → ℕ → VerdictAnswer
 verdictFrom W c word-room =
     let r : Option Verdict = some (verdict W (c .sets) (c .profiles)) in
@@ -184,7 +184,7 @@ oppositeAnswer K m set-room profile-room state-room arrow-room =
           ]
     ]
 
--- THE THREE CALLS with their lent slices, the word memory as it is lent
+-- THE CALLS THAT FILL TABLES, with their lent slices, the word memory as it is lent
 unfoldable pub closingIn : Kind → Model → SetSlices → ProfileSlices → ClosingAnswer
 closingIn K m S T = closingAnswer K m (setRoom K S) (profileRoom K T)
 

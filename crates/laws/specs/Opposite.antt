@@ -62,7 +62,7 @@ module _ (Ps : List ℕ) (ts : List Profile) where
   unfoldable pub onto : ℕ → Profile → ℕ → ℕ → Profile → List Arrow
   onto b t p a y = cond (sameProfile y t) (arrow p a (gate b) ∷ []) [] ++ (arrow p a (inBlock b (placeOf (sameProfile y) ts)) ∷ [])
 
--- the profiles that occur in a rejecting pair whose set is not empty, in order: each has a block
+-- the profiles that have a block, in their order: those that reject with some set other than the empty one
 unfoldable pub blockProfiles : ℕ → List ℕ → List Profile → List Profile
 blockProfiles W Ps ts = keep (λ t. someOf (λ P. rejectsNonEmpty W P t) Ps) ts
 
@@ -80,8 +80,8 @@ module _ (Ps : List ℕ) (ts bs : List Profile) where
   stateCount = length Ps + length bs * (length ts + 1)
 
 module _ (W : ℕ) (M : Machine ℕ) (Ps : List ℕ) (ts : List Profile) where
-  -- from set number i, P, on event a: to the set of P after a, and for each rejecting pair, P not empty, to the state of a's profile
-  -- in the pair's block
+  -- from set P, number i, on event a: one arrow to the next set, and, unless P is empty, one into the block of each profile that rejects
+  -- with P, to its state for a's profile
   unfoldable pub fromSet : List Profile → ℕ → ℕ → ℕ → List Arrow
   fromSet bs i P a =
       arrow i a (placeOf (eqb (after W M P a)) Ps)

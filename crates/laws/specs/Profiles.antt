@@ -60,11 +60,11 @@ module _ (W : ℕ) where
   unfoldable pub image : ℕ → Profile → ℕ
   image P t = fromBits W (λ q. someBelow W (λ p. bit P p && leadsTo t p q))
 
-  -- t leads P exactly to P, and t then t is t
+  -- the image of P under t is P itself, and t joined with itself is t
   unfoldable pub isFitting : ℕ → Profile → Bool
   isFitting P t = eqb (image P t) P && sameProfile (join t t) t
 
-  -- some state r of P has a marked r to r in t
+  -- t leads some state of P back to itself with a mark
   unfoldable pub marksRound : ℕ → Profile → Bool
   marksRound P t = someBelow W (λ r. bit P r && marked t r r)
 
@@ -88,7 +88,7 @@ module _ (W : ℕ) where
   rejectingWith P [] j = none
   rejectingWith P (t ∷ ts) j = elim (isRejecting P t) [ true ↦ some j | false ↦ rejectingWith P ts (suc j) ]
 
-  -- the first rejecting pair, by set number and then profile number; the first set of the list has number i
+  -- the first pair that rejects: the sets in their order, and for each set the profiles in theirs; the first set of the list has number i
   unfoldable pub firstRejecting : List ℕ → List Profile → ℕ → Option (ℕ × ℕ)
   firstRejecting [] ts i = none
   firstRejecting (P ∷ Ps) ts i = elim (rejectingWith P ts 0) [ some j ↦ some (i, j) | none ↦ firstRejecting Ps ts (suc i) ]

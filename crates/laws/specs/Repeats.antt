@@ -20,11 +20,12 @@ module _ (W : ℕ) where
   abbrev pub MarksLed : Profile → Type 0
   MarksLed t = (p q : ℕ) → p < W → q < W → marked W t p q ≡ true → leadsTo W t p q ≡ true
 
-  -- c leads, and marks, exactly where t repeated does: once or more, as `times` counts from 0
+  -- c leads, and marks, exactly where t does, or two or more t joined; `times` with n joins n + 1 of them
   pub record Repeats (t c : Profile) : Type 0 where
     pub leads : (p q : ℕ) → p < W → q < W → (leadsTo W c p q ≡ true) ↔ ((n : ℕ) × (leadsTo W (times (join W) n t) p q ≡ true))
     pub marks : (p q : ℕ) → p < W → q < W → (marked W c p q ≡ true) ↔ ((n : ℕ) × (marked W (times (join W) n t) p q ≡ true))
 
-  -- a state with a marked way back to itself in c, in P or where c leads P: P is the set of the beginning, and c all repeats of the round
+  -- c leads some state back to itself with a mark, and that state is in P or in the set to which c leads P. P is for the set of the
+  -- beginning, and c for all repeats of the round
   unfoldable pub acceptedFrom : ℕ → Profile → Bool
   acceptedFrom P c = marksRound W P c || marksRound W (image W P c) c

@@ -35,6 +35,7 @@ const LONG: u8 = 2;
 
 const COURSES: u8 = 3;
 
+// With more profiles the search takes long.
 const MANY: usize = 600;
 
 // A stored course: how many letters u and v have, at most so many each, and then the letters.
@@ -151,7 +152,7 @@ fn show_short(call: Call, m: Model, arrows: &[u64], short: usize, need: usize) {
     print(sum, b'\n');
 }
 
-// All slices of different lengths: just enough, one profile too few, and one set too few as well.
+// All slices of different lengths: just enough, one profile too few, and one set too few as well, both with no word memory.
 fn show_different(
     call: Call,
     m: Model,
@@ -162,12 +163,12 @@ fn show_different(
 ) {
     let fewer = one_below(profiles);
     let all = run(call, m, arrows, all_different(sets, profiles, words, 0), 7);
-    let some = run(call, m, arrows, all_different(sets, fewer, words, 5), 8);
+    let some = run(call, m, arrows, all_different(sets, fewer, 0, 5), 8);
     let few = run(
         call,
         m,
         arrows,
-        all_different(one_below(sets), fewer, words, 10),
+        all_different(one_below(sets), fewer, 0, 10),
         9,
     );
     print(wide(all.number), b' ');
@@ -176,8 +177,8 @@ fn show_different(
     print(mix(mix(all.sum, some.sum), few.sum), b'\n');
 }
 
-// From which slice on each is lent too short: none where the model itself is refused, and only those from `late` on where there are very
-// many profiles, since the search then takes long.
+// From which slice on each is lent too short: none where the model itself is refused, and only those from `late` on where there are many
+// profiles.
 fn first_short(seen: Seen, none: usize, late: usize) -> usize {
     if 0 < seen.number && seen.number < 4 {
         return none;
@@ -247,6 +248,7 @@ fn in_number(judgement: Judgement) -> u64 {
     }
 }
 
+// As many letters are read as said, and as there is room for.
 fn read_letters(out: &mut [u8], letters: usize) {
     let n = least(letters, out.len());
     io::read_full(STDIN_FILENO, &mut out[..n]);

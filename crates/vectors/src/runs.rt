@@ -54,7 +54,7 @@ fn seen_closed(closed: Closed) -> Seen {
 }
 
 // What the verdict answers.
-fn seen_judged(answer: Answer) -> Seen {
+fn seen_concluded(answer: Answer) -> Seen {
     match answer {
         Answer::Covered { sets, profiles } => Seen {
             number: 0,
@@ -248,7 +248,7 @@ fn called(
             profile_from,
             profile_event,
         )),
-        Call::Verdict => seen_judged(verdict_parts(
+        Call::Verdict => seen_concluded(verdict_parts(
             m,
             arrows,
             lengths,
