@@ -10,7 +10,7 @@ use Rattle.laws.specs.Model.{eight}
 use Rattle.laws.specs.Tables.{Entry}
 use Rattle.laws.specs.Profiles.{Profile, values}
 use Rattle.laws.specs.Answers.{SetSlices, ProfileSlices, setRoom, profileRoom, over, setSlices, profileSlices, closingIn}
-use Rattle.laws.specs.Answers.{words, verdictAnswer, verdictIn, wordMemory}
+use Rattle.laws.specs.Answers.{closingOf, words, verdictFrom, verdictAnswer, verdictIn, wordMemory}
 use Rattle.laws.proofs.Booleans.{never}
 use Rattle.laws.proofs.Answered.{closing-within, verdict-within, one-judged}
 use Rattle.laws.proofs.Read.{first-numbers}
@@ -135,6 +135,14 @@ module _ {m : Model} {arrows : List ℕ} {S S′ : SetSlices} {T T′ : ProfileS
     one-verdict k =
         let (_, sets, profiles) = one-closing (j .closing) (k .closing) in
         (told-once answer _ (j .answered ∙ sym (k .answered)), sets, profiles, j .word-memory ∙ sym (k .word-memory))
+
+    -- the answer due is document 01's for complete tables: so 6 comes exactly if u and v of these have more letters than there is room
+    pub verdict-listed : verdict-due m arrows S T memory
+        ≡ verdictFrom 8
+        (closingOf eight (asked m arrows) (setRoom eight S) (profileRoom eight T) (j .closing .all-sets) (j .closing .all-profiles))
+        (length memory)
+    unfolding verdictIn verdictAnswer closingIn
+    verdict-listed = ap (λ c. verdictFrom 8 c (length memory)) (j .closing .listed)
 
     -- what was written are u and v
     words-long : length (words (verdict-due m arrows S T memory .verdict)) ≡ told answer .u + told answer .v

@@ -12,25 +12,27 @@ close-requires : tie.Need-close-requires
 close-requires c κs = search needs
 
 same-length : tie.Need-same-length
-same-length c = search needs
+same-length c =
+    let e = c .before .before .before .before .before .before .before .before .before .before .before in
+    e .before .before .before .before .set-masks .given
 
 same-length-2 : tie.Need-same-length-2
-same-length-2 c = search needs
+same-length-2 c = c .before .before .before .before .before .before .before .before .before .before .before .before .before .set-from .given
 
 same-length-3 : tie.Need-same-length-3
-same-length-3 c = search needs
+same-length-3 c = c .before .before .before .before .before .before .before .before .before .before .before .set-event .given
 
 same-length-4 : tie.Need-same-length-4
-same-length-4 c = search needs
+same-length-4 c = c .before .before .before .before .before .before .before .before .before .profile-arrows .given
 
 same-length-5 : tie.Need-same-length-5
-same-length-5 c = search needs
+same-length-5 c = c .before .before .before .before .before .before .before .profile-marks .given
 
 same-length-6 : tie.Need-same-length-6
-same-length-6 c = search needs
+same-length-6 c = c .before .before .before .before .before .profile-from .given
 
 same-length-7 : tie.Need-same-length-7
-same-length-7 c = search needs
+same-length-7 c = c .before .before .before .profile-event .given
 
 returns : tie.Need-returns
 returns c =
@@ -107,28 +109,40 @@ conclude-requires c κs =
     stored (d .before .before .before .before .before .before .before .before .close .ensures) (e .if1 .left)
 
 same-length-8 : tie.Need-same-length-8
-same-length-8 c = search needs
+same-length-8 c =
+    let e = c .before .before .before .before .before .before .before .before .before .before .before in
+    e .before .before .before .before .before .before .before .before .before .before .before .before .before .before .before .set-masks .given
 
 same-length-9 : tie.Need-same-length-9
-same-length-9 c = search needs
+same-length-9 c =
+    let e = c .before .before .before .before .before .before .before .before .before .before .before in
+    e .before .before .before .before .before .before .before .before .before .before .before .before .before .set-from .given
 
 same-length-10 : tie.Need-same-length-10
-same-length-10 c = search needs
+same-length-10 c =
+    let e = c .before .before .before .before .before .before .before .before .before .before .before in
+    e .before .before .before .before .before .before .before .before .before .before .before .set-event .given
 
 same-length-11 : tie.Need-same-length-11
-same-length-11 c = search needs
+same-length-11 c =
+    let e = c .before .before .before .before .before .before .before .before .before .before .before in
+    e .before .before .before .before .before .before .before .before .before .profile-arrows .given
 
 same-length-12 : tie.Need-same-length-12
-same-length-12 c = search needs
+same-length-12 c =
+    let e = c .before .before .before .before .before .before .before .before .before .before .before in
+    e .before .before .before .before .before .before .before .profile-marks .given
 
 same-length-13 : tie.Need-same-length-13
-same-length-13 c = search needs
+same-length-13 c =
+    let e = c .before .before .before .before .before .before .before .before .before .before .before in
+    e .before .before .before .before .before .profile-from .given
 
 same-length-14 : tie.Need-same-length-14
-same-length-14 c = search needs
+same-length-14 c = c .before .before .before .before .before .before .before .before .before .before .before .before .before .before .profile-event .given
 
 same-length-15 : tie.Need-same-length-15
-same-length-15 c = search needs
+same-length-15 c = c .before .memory .given
 
 returns-2 : tie.Need-returns-2
 returns-2 c =
