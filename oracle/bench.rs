@@ -3,6 +3,7 @@
 
 use crate::model::{Model, MOST_EVENTS};
 use crate::straight::Lent;
+use crate::tables::Tables;
 use crate::vectors::{large, repeated};
 use std::io::Write;
 use std::process::{Command, Stdio};
@@ -21,9 +22,10 @@ pub fn run(program: &[&str]) -> i32 {
     0
 }
 
-/// The large models, and the one with 2,048 profiles again with its events repeated up to 16.
+/// The large models with more than 1,000 profiles, and the one with 2,048 again with its events repeated up to 16.
 fn models() -> Vec<Model> {
     let mut models = large();
+    models.retain(|model| Tables::close(model, None, None).profiles.entries.len() > 1_000);
     let mut busiest = models[1].clone();
     let events = busiest.arrows.clone();
     busiest.arrows = events.into_iter().cycle().take(MOST_EVENTS).collect();
