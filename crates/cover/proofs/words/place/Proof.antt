@@ -76,7 +76,10 @@ part-write-end : tie.Need-part-write-end
 part-write-end c = search needs
 
 write-requires-2 : tie.Need-write-requires-2
-write-requires-2 c κs = search needs
+write-requires-2 c κs =
+    let counted = c .before .before .before .before .before .before in
+    let start = counted .before .before .before .before .before .before .before in
+    (start .pre .1 .0, omega (arith, c .write-arg2 .given .1, counted .count2 .ensures))
 
 same-length : tie.Need-same-length
 same-length c = search needs
