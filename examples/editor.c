@@ -1,5 +1,6 @@
 /* An editor's use of the check. The models that document 01 works by hand are checked and printed, each held against what the document says
- * of it; then C at the edges of what is refused; then C's tables, in slices of different lengths. Exits with 1 if anything differs. */
+ * of it; then one of our own, C at the edges of what is refused, and C's tables in slices of different lengths. Exits with 1 if anything
+ * differs. */
 #include "../include/cover.h"
 #include <stdio.h>
 #include <string.h>
@@ -36,6 +37,8 @@ static const Model after_c[] = {
     {"G", 1, 1, 0, STATE(0), {ARROW(0, 0)}, 1, 1, "", " 0"},
     {"H", 2, 2, STATE(0), STATE(1), {ARROW(0, 0), ARROW(0, 0) | ARROW(0, 1) | ARROW(1, 1)}, 2, 3, "", " 0"},
 };
+/* not in document 01: u and v differ, so that it is seen which comes first */
+static const Model differing = {"u and v that differ", 1, 2, STATE(0), STATE(0), {ARROW(0, 0), 0}, 2, 2, " 1", " 0"};
 #define COUNT(list) (sizeof list / sizeof list[0])
 
 /* What stands in memory before a call, so that it is seen what was written. */
@@ -76,6 +79,8 @@ static int differs(const Model *m, CoverVerdict r, const char *u, const char *v)
 static int show(const Model *m, size_t profile_room) {
   static char u[4 * COVER_WORDS + 1], v[4 * COVER_WORDS + 1];
   CoverVerdict r = check(m, COVER_SETS, profile_room, COVER_WORDS);
+  if (r.u > COVER_WORDS || r.v > COVER_WORDS - r.u)
+    return 1;
   spell(memory, r.u, u);
   spell(memory + r.u, r.v, v);
   printf("%s: sets %zu, profiles %zu, ", m->name, r.sets, r.profiles);
@@ -124,18 +129,27 @@ static int show_edges(void) {
          show_refused(&C, (Refusal){"without word memory", S, P, 0, COVER_MORE_LETTERS, 2, 3});
 }
 
-/* All seven slices of C's tables, each with a length of its own, and one place past the count. */
+/* All seven slices of C's tables, each with a length of its own, and one place past the count, which keeps what stood there. */
 static int show_tables(void) {
   uint8_t masks[4] = {9, 9, 9, 9}, events[6] = {9, 9, 9, 9, 9, 9}, last[10] = {9, 9, 9, 9, 9, 9, 9, 9, 9, 9};
   uint16_t from[5] = {9, 9, 9, 9, 9}, profile[9] = {9, 9, 9, 9, 9, 9, 9, 9, 9};
   uint64_t leads[7] = {9, 9, 9, 9, 9, 9, 9}, marks[8] = {9, 9, 9, 9, 9, 9, 9, 9};
   CoverVerdict r = cover_verdict(C.n, C.k, C.start, C.home, C.arrows, 2, masks, 4, from, 5, events, 6, leads, 7, marks, 8, profile, 9, last,
                                  10, memory, sizeof memory);
-  for (size_t i = 0; i <= r.sets; i++)
+  if (r.number != COVER_DONE || r.sets != C.sets || r.profiles != C.profiles)
+    return 1;
+  for (size_t i = 0; i <= C.sets; i++)
     printf("C's set %zu: %d %d %d\n", i, masks[i], from[i], events[i]);
-  for (size_t i = 0; i <= r.profiles; i++)
+  for (size_t i = 0; i <= C.profiles; i++)
     printf("C's profile %zu: %llu %llu %d %d\n", i, (unsigned long long)leads[i], (unsigned long long)marks[i], profile[i], last[i]);
-  return r.number != COVER_DONE;
+  /* worked by hand: {0} and {1}; event 0, event 1, and 0 then 1 */
+  const uint8_t want_masks[3] = {1, 2, 9}, want_events[3] = {COVER_NO_EVENT, 0, 9}, want_last[4] = {0, 1, 1, 9};
+  const uint16_t want_from[3] = {COVER_NO_ENTRY, 0, 9}, want_profile[4] = {COVER_NO_ENTRY, COVER_NO_ENTRY, 0, 9};
+  const uint64_t want_leads[4] = {514, 257, 257, 9}, want_marks[4] = {514, 0, 257, 9};
+  return memcmp(masks, want_masks, sizeof want_masks) || memcmp(from, want_from, sizeof want_from) ||
+         memcmp(events, want_events, sizeof want_events) || memcmp(leads, want_leads, sizeof want_leads) ||
+         memcmp(marks, want_marks, sizeof want_marks) || memcmp(profile, want_profile, sizeof want_profile) ||
+         memcmp(last, want_last, sizeof want_last);
 }
 
 int main(void) {
@@ -145,11 +159,12 @@ int main(void) {
   faults += show(&C, COVER_PROFILES);
   for (size_t i = 0; i < COUNT(after_c); i++)
     faults += show(&after_c[i], COVER_PROFILES);
+  faults += show(&differing, COVER_PROFILES);
   faults += show_edges();
   /* one place more than the refusal above had */
   faults += show(&C, 3);
   faults += show_tables();
   if (faults > 0)
-    fprintf(stderr, "editor: %d of these are not what document 01 says\n", faults);
+    fprintf(stderr, "editor: %d of these are not what they should be\n", faults);
   return faults > 0;
 }

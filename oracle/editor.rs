@@ -1,7 +1,7 @@
-//! What the C editor must print: the hand-worked models, C at the edges of what is refused, and C's tables.
+//! What the C editor must print: the hand-worked models, one whose u and v differ, C at the edges of what is refused, and C's tables.
 
 use crate::course::letters;
-use crate::model::{hand_worked, named, Model, Verdict};
+use crate::model::{bit, hand_worked, named, Model, Verdict};
 use crate::tables::{Entry, Tables, MOST_PROFILES, MOST_SETS};
 
 const MOST_WORDS: usize = 2_304;
@@ -12,6 +12,14 @@ pub fn print() -> i32 {
     for row in hand_worked() {
         println!("{}: {}", row.name, verdict(&row.model));
     }
+    let differing = Model {
+        n: 1,
+        k: 2,
+        start: 1,
+        home: 1,
+        arrows: vec![bit(0, 0), 0],
+    };
+    println!("u and v that differ: {}", verdict(&differing));
     print_edges();
     println!("C: {}", verdict(&named("C")));
     print_tables(&named("C"));

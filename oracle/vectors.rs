@@ -18,7 +18,7 @@ struct Case {
 }
 
 /// What is asked of a stored model: all runs, one with memory enough, one with slices longer than 16 bits can count, or judging courses.
-#[derive(Clone, PartialEq)]
+#[derive(PartialEq)]
 enum Asked {
     All,
     Once,
@@ -290,8 +290,8 @@ fn lines(case: &Case) -> Vec<String> {
 /// the model itself is refused no slice is tried alone, and for the verdict on very many profiles only the word memory.
 fn room_lines(case: &Case, call: Call, slices: usize) -> Vec<String> {
     let full = run(case, call, WHOLE, WHOLE, 1);
-    let first = match full.number {
-        1..=3 => slices,
+    let first = match full.sets {
+        0 => slices,
         _ if call == Call::Verdict && full.profiles > MANY => WORDS,
         _ => 0,
     };
@@ -408,7 +408,8 @@ fn cases() -> Vec<Case> {
     cases
 }
 
-/// All short courses of the small models, courses that go round often, what is refused, then random models with u and v of every length.
+/// All short courses of the small models, courses that go round often, what is refused, random models with u and v of every length, and
+/// damaged models with letters up to k.
 fn courses() -> Vec<Case> {
     let small = hand_worked().into_iter().map(|row| row.model);
     let mut cases: Vec<Case> = small
@@ -478,6 +479,11 @@ fn rings() -> Vec<Model> {
 
 fn judging(case: Case, courses: Vec<Course>) -> Case {
     assert!(courses.len() < 256, "more courses than a byte counts");
+    let short = |(u, v): &Course| u.len().max(v.len()) <= MOST_LETTERS;
+    assert!(
+        courses.iter().all(short),
+        "a word with more letters than are read"
+    );
     Case {
         asked: Asked::Courses(courses),
         ..case

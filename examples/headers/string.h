@@ -2,4 +2,5 @@
 #pragma once
 #include <stddef.h>
 int strcmp(const char *a, const char *b);
+int memcmp(const void *a, const void *b, size_t count);
 void *memset(void *to, int byte, size_t count);

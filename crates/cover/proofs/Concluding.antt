@@ -1,4 +1,4 @@
--- What follows from complete tables, which stand in slices that hold nothing else: no pair rejects, or the words of the first that does
+-- What follows from tables that stand in slices which hold nothing else: no pair rejects, or the words of the first that does
 -- have or have no room. The first pair in the slices is the first of their entries, and its words are those of the entries.
 use Prim.Native.Nat.{ℕ, _<_, _≤_}
 use native.Mathlib.Omega.{arith}
@@ -14,6 +14,7 @@ use Rattle.laws.specs.Profiles.{Profile, values, isRejecting, FirstPair, covere
 use Rattle.laws.specs.Answers.{SetSlices, ProfileSlices, VerdictAnswer, over, uAndV, words, verdictFrom, wordMemory}
 use Rattle.laws.proofs.Booleans.{inside}
 use Rattle.laws.proofs.Places.{place-below}
+use Rattle.laws.proofs.Values.{value-at}
 use Rattle.laws.proofs.Verdicts.{covered-none, first-verdict}
 use Rattle.laws.proofs.Answered.{verdict-covered, verdict-6, verdict-uncovered}
 use Rattle.cover.specs.Memory.{entriesIn, setsIn, profilesIn, Linked, wordIn, Places}
@@ -24,7 +25,7 @@ use Rattle.cover.specs.declared.pairs.Pair.{Pair}
 use Rattle.cover.specs.declared.pairs.Pair.the-variants.{Nowhere, At}
 use Rattle.cover.specs.declared.answer.Answer.{Answer}
 use Rattle.cover.specs.declared.answer.Answer.the-variants.{Covered, Uncovered, Refused}
-use Rattle.cover.proofs.Slices.{map-at, entries-length, entries-at}
+use Rattle.cover.proofs.Slices.{entries-length, entries-at}
 use Rattle.cover.proofs.SetTable.{setLayout}
 use Rattle.cover.proofs.ProfileTable.{profileLayout}
 use Rattle.cover.proofs.Rebuilding.{word-same}
@@ -35,8 +36,7 @@ module _ {Value : Type 0} (value : ℕ → Value) (from event : List ℕ) (n : �
   read = entriesIn value from event n
 
   value-there : (i : ℕ) → i < n → getElem? (values read) i ≡ some (value i)
-  unfolding values
-  value-there i l = map-at (λ e. e .value) read i (entries-at value from event n i l)
+  value-there i l = value-at read i _ (entries-at value from event n i l)
 
   values-long : length (values read) ≡ n
   unfolding values

@@ -1,174 +1,156 @@
--- What the verdict ensures, from what closing ensures: after a refusal nothing more, and otherwise what follows from the first places of
--- the slices, where the complete tables stand. The verdict that is given is then document 01's, and that one is right.
-use Prim.Native.Nat.{ℕ, zero, suc}
+-- One course: what is refused of it, and its words read letter by letter. A loop that reads a word keeps that what is left to read gives
+-- the answer for the whole word.
+use Prim.Native.Nat.{ℕ, zero, suc, _+_, _<_, _≤_}
 use native.Mathlib.Omega.{arith}
-use mathlib.Core.Path.{_≡_, refl, sym, ap, ap₂, _∙_}
-use mathlib.Core.List.{List, _++_, append-assoc}
-use mathlib.Core.Option.{Option, none, some}
-use lib.ListN.{length, take, drop, length-take}
-use lib.Seq.{take-at, drop-at, getD-take, length-take-le}
-use Rattle.laws.specs.Model.{eight, machine}
-use Rattle.laws.specs.Profiles as paper
-use Rattle.laws.specs.Answers.{SetSlices, ProfileSlices, setRoom, profileRoom, over, VerdictAnswer, uAndV, words, verdictFrom}
-use Rattle.laws.specs.Answers.{verdictAnswer, closingIn, verdictIn, wordMemory}
-use Rattle.laws.proofs.Answered.{verdict-refused, verdict-answers}
-use Rattle.cover.specs.Values.{asked}
-use Rattle.cover.specs.Memory.{setMemory, profileMemory, setsIn, profilesIn, SetsLent, ProfilesLent}
-use Rattle.cover.specs.Closing as closing
-use Rattle.cover.specs.Verdicts.{told, isCovered, tells, given, due, GivesVerdict, Stored, wholly, Concludes}
-use Rattle.cover.specs.declared.model.Model.{Model}
-use Rattle.cover.specs.declared.Closed.{Closed}
-use Rattle.cover.specs.declared.answer.Answer.{Answer}
-use Rattle.cover.specs.declared.answer.Answer.the-variants.{Covered, Uncovered, Refused}
-use Rattle.cover.proofs.Slices.{entries-part}
-use Rattle.cover.proofs.SetTable as of-sets
-use Rattle.cover.proofs.ProfileTable as of-profiles
-use Rattle.cover.proofs.Rebuilding.{linked}
-use Rattle.cover.proofs.Promises.{sets-within, profiles-within}
+use native.Mathlib.Numerals.{add-one}
+use mathlib.Core.Path.{_≡_, refl, sym, ap, _∙_}
+use mathlib.Core.Bool.{Bool, true, false, not, _&&_}
+use mathlib.Core.List.{List, [], _∷_, _++_}
+use mathlib.Core.Option.{some}
+use lib.ListN.{length, getD, drop, drop-of-length-le}
+use lib.Seq.{drop-cons}
+use lib.Dec.{eqb, ltb}
+use borrow.Author.Tests.{ltb-true, eqb-false, ne-eqb, lt-ltb, le-ltb}
+use Rattle.laws.specs.Bits.{everyOf}
+use Rattle.laws.specs.Words.{Word, lettersBelow, empty}
+use Rattle.laws.specs.Model.{Machine, Kind, Model, Course}
+use Rattle.laws.specs.Refusals.{Check, firstOf, fault, refuse, modelChecks, courseChecks, Unrefused}
+use Rattle.laws.specs.Profiles.{Profile, join, eventProfile, startSet, after, setFrom, setOf, nextProfile, profileFrom, profileOf}
+use Rattle.laws.proofs.Booleans.{and-left, and-right}
+use Rattle.laws.proofs.Unrefused.{unrefused}
 
--- the first n places of the slices, and what is read there
-abbrev firstSets : ℕ → SetSlices → SetSlices
-firstSets n l = setMemory (take n (l .masks)) (take n (l .from)) (take n (l .event))
-
-abbrev firstProfiles : ℕ → ProfileSlices → ProfileSlices
-firstProfiles n l = profileMemory (take n (l .arrows)) (take n (l .marks)) (take n (l .from)) (take n (l .event))
-
-sets-part : (n : ℕ) (l : SetSlices) → setsIn (firstSets n l) n ≡ setsIn l n
-unfolding setsIn
-sets-part n l = entries-part _ _ (l .from) (l .event) n (λ i h. getD-take n (l .masks) i 0 h)
-
-profiles-part : (n : ℕ) (l : ProfileSlices) → profilesIn (firstProfiles n l) n ≡ profilesIn l n
-unfolding profilesIn
-profiles-part n l =
-    entries-part _ _ (l .from) (l .event) n (λ i h. rw (getD-take n (l .arrows) i 0 h, getD-take n (l .marks) i 0 h))
-
--- u and v are read back from the word memory
-module _ (u v memory : List ℕ) where
-  abbrev after : List ℕ
-  after = over (u ++ v) memory
-
-  first-word : take (length u) after ≡ u
-  unfolding over
-  first-word = rw append-assoc (take-at u _ (length u) refl)
-
-  second-word : take (length v) (drop (length u) after) ≡ v
-  unfolding over
-  second-word = rw (append-assoc, drop-at u (v ++ drop (length (u ++ v)) memory) (length u) refl) (take-at v _ (length v) refl)
-
--- THE VERDICT THAT IS GIVEN by an answer that tells what document 01's tells, and the word memory beside it, is document 01's
-given-is : (answer : Answer) (d : VerdictAnswer) (memory : List ℕ) → told answer ≡ tells d → given answer (wordMemory d memory) ≡ d .verdict
-unfolding told tells isCovered given wordMemory words uAndV
-given-is answer d memory e = go answer (d .verdict) (ap (λ t. t .covered) e) (ap (λ t. t .u) e) (ap (λ t. t .v) e)
+-- of two lists of checks the first decides, if it comes to a number
+first-decides : (xs ys : List Check) → (firstOf xs .number ≡ 0 → ⊥) → firstOf (xs ++ ys) ≡ firstOf xs
+unfolding firstOf
+first-decides [] ys h = absurd (h refl)
+first-decides (x ∷ xs) ys h = go (x .applies) refl (first-decides xs ys)
   where
-    go : (answer : Answer) (o : Option paper.Verdict) → told answer .covered ≡ isCovered o → told answer .u ≡ length (uAndV o .0)
-        → told answer .v ≡ length (uAndV o .1) → given answer (over (words o) memory) ≡ o
-    go (Covered s p) (some paper.covered) c l k = refl
-    go (Covered s p) (some (paper.uncovered u v)) c l k = cc
-    go (Covered s p) none c l k = cc
-    go (Uncovered s p _ _) (some paper.covered) c l k = cc
-    go (Uncovered s p _ _) (some (paper.uncovered u v)) c l k = rw (l, k, first-word u v memory, second-word u v memory)
-    go (Uncovered s p _ _) none c l k = cc
-    go (Refused n s p) (some paper.covered) c l k = cc
-    go (Refused n s p) (some (paper.uncovered u v)) c l k = cc
-    go (Refused n s p) none c l k = refl
+    go : (b : Bool) → x .applies ≡ b → ((firstOf xs .number ≡ 0 → ⊥) → firstOf (xs ++ ys) ≡ firstOf xs)
+        → firstOf (x ∷ xs ++ ys) ≡ firstOf (x ∷ xs)
+    go true e more = rw (e, firstOf)
+    go false e more = rw (e, firstOf) (more (λ z. h (rw (e, firstOf) z)))
 
-module _ {m : Model} {arrows : List ℕ} {S S′ : SetSlices} {T T′ : ProfileSlices} {closed : Closed}
-    (c : closing.Closing m arrows S S′ T T′ closed) where
-  -- what closing answered stands in the first places, within the rooms
-  pub sets-stand : SetsLent S′ (closed .sets) (setRoom eight S)
-  sets-stand =
-      rw (c .set-slices, c .sets)
-      (of-sets.setLayout .lent _ S 0 _ (of-sets.room-lent S refl) (omega (arith, c .sets, sets-within c)))
+-- and else the second, where the first has no check with number 0
+second-decides : (xs ys : List Check) → everyOf (λ c. ltb 0 (c .number)) xs ≡ true → firstOf xs .number ≡ 0
+    → firstOf (xs ++ ys) ≡ firstOf ys
+unfolding firstOf everyOf
+second-decides [] ys h z = refl
+second-decides (x ∷ xs) ys h z = go (x .applies) refl (second-decides xs ys (and-right (ltb 0 (x .number)) _ h))
+  where
+    go : (b : Bool) → x .applies ≡ b → (firstOf xs .number ≡ 0 → firstOf (xs ++ ys) ≡ firstOf ys) → firstOf (x ∷ xs ++ ys) ≡ firstOf ys
+    go true e more = absurd (omega (arith, ltb-true 0 (x .number) (and-left (ltb 0 (x .number)) _ h), rw (e, firstOf) at z))
+    go false e more = rw (e, firstOf) (more (rw (e, firstOf) at z))
 
-  pub profiles-stand : ProfilesLent T′ (closed .profiles) (profileRoom eight T)
-  profiles-stand =
-      rw (c .profile-slices, c .profiles)
-      (of-profiles.profileLayout .lent _ T 0 _ (of-profiles.room-lent T refl) (omega (arith, c .profiles, profiles-within c)))
+-- a word is empty exactly if its length is 0
+pub empty-length : (w : Word) → empty w ≡ eqb (length w) 0
+unfolding empty
+empty-length [] = refl
+empty-length (a ∷ w) = sym (ne-eqb (suc (length w)) 0 (λ e. omega arith))
 
-  -- the first places of the slices of sets and profiles
-  abbrev P : SetSlices
-  P = firstSets (closed .sets) S′
+pub some-letter : (w : Word) → empty w ≡ false → 0 < length w
+some-letter w e = omega (arith, eqb-false (length w) 0 (sym (empty-length w) ∙ e))
 
-  abbrev Q : ProfileSlices
-  Q = firstProfiles (closed .profiles) T′
+-- WHICH REFUSAL OF A COURSE IS THE FIRST: the model's, then 10, then 9
+module _ (K : Kind) (m : Model) (u v : Word) where
+  abbrev own : List Check
+  own = refuse 10 (empty v) ∷ refuse 9 (not (lettersBelow (m .k) u && lettersBelow (m .k) v)) ∷ []
 
-  -- an answer that tells what document 01's tells gives a verdict that is right
-  judged : {memory memory′ : List ℕ} {answer : Answer} → told answer ≡ tells (due m arrows S T memory)
-      → memory′ ≡ wordMemory (due m arrows S T memory) memory → GivesVerdict m arrows S S′ T T′ memory memory′ answer
-  unfolding verdictIn tells
-  judged {memory} {memory′} {answer} answered written =
-      record { closed = closed; closing = c; answered = answered; word-memory = written; right = right }
+  abbrev First : ℕ → Type 0
+  First number = number ≡ firstOf (courseChecks K m u v) .number
+
+  module _ {number : ℕ} (is : number ≡ firstOf (modelChecks K m) .number) where
+    pub by-model : (number ≡ 0 → ⊥) → First number
+    unfolding courseChecks
+    by-model n = is ∙ sym (ap (λ f. f .number) (first-decides (modelChecks K m) own (λ z. n (is ∙ z))))
+
+    module _ (passes : number ≡ 0) where
+      by-own : firstOf (courseChecks K m u v) ≡ firstOf own
+      unfolding courseChecks modelChecks refuse fault everyOf
+      by-own = second-decides (modelChecks K m) own refl (sym is ∙ passes)
+
+      pub by-empty : empty v ≡ true → First 10
+      unfolding firstOf refuse fault
+      by-empty e = rw (by-own, e)
+
+      module _ (there : empty v ≡ false) where
+        pub by-beginning : lettersBelow (m .k) u ≡ false → First 9
+        unfolding firstOf refuse fault
+        by-beginning e = rw (by-own, there, e)
+
+        pub by-round : lettersBelow (m .k) u ≡ true → lettersBelow (m .k) v ≡ false → First 9
+        unfolding firstOf refuse fault
+        by-round e f = rw (by-own, there, e, f)
+
+        pub by-none : lettersBelow (m .k) u ≡ true → lettersBelow (m .k) v ≡ true → First 0
+        unfolding firstOf refuse fault
+        by-none e f = rw (by-own, there, e, f)
+
+  -- with number 0 the model and the course are as asked
+  pub course-asked : First 0 → Unrefused K m × Course (m .k) u v
+  course-asked z =
+      go (firstOf (modelChecks K m) .number) (empty v) (lettersBelow (m .k) u) (lettersBelow (m .k) v) refl refl refl refl
     where
-      right : told answer .number ≡ 0
-          → (x : paper.Verdict) × (given answer memory′ ≡ some x) × paper.RightVerdict (machine 8 (asked m arrows)) (m .k) x
-      right z =
-          let lent = of-sets.room-lent S refl in
-          let lent-too = of-profiles.room-lent T refl in
-          let (is, so) =
-          verdict-answers eight (asked m arrows) (setRoom eight S) (profileRoom eight T) (length memory) (omega arith) (omega arith)
-          (omega arith) (sym (ap (λ t. t .number) answered) ∙ z) in
-          (_, rw written (given-is answer (due m arrows S T memory) memory answered) ∙ is, so)
+      go : (n : ℕ) (b a c : Bool) → firstOf (modelChecks K m) .number ≡ n → empty v ≡ b → lettersBelow (m .k) u ≡ a
+          → lettersBelow (m .k) v ≡ c → Unrefused K m × Course (m .k) u v
+      go (suc n) b a c f e g h = absurd (omega (arith, by-model (sym f) (λ z. omega arith)))
+      go zero true a c f e g h = absurd (omega (arith, by-empty (sym f) refl e))
+      go zero false false c f e g h = absurd (omega (arith, by-beginning (sym f) refl e g))
+      go zero false true false f e g h = absurd (omega (arith, by-round (sym f) refl e g h))
+      go zero false true true f e g h = (unrefused K m f, record { u-letters = g; v-letters = h; v-some = e })
 
-  -- A REFUSAL of closing is the verdict's, and nothing goes to the word memory
-  pub refuses : (memory : List ℕ) → (closed .number ≡ 0 → ⊥)
-      → GivesVerdict m arrows S S′ T T′ memory memory (Refused (closed .number) (closed .sets) (closed .profiles))
-  unfolding verdictIn verdictAnswer closingIn told tells isCovered wordMemory words uAndV over
-  refuses memory refused = go (closed .number) refl
-    where
-      go : (n : ℕ) → closed .number ≡ n
-          → GivesVerdict m arrows S S′ T T′ memory memory (Refused (closed .number) (closed .sets) (closed .profiles))
-      go zero e = absurd (refused e)
-      go (suc n) e =
-          let d = verdict-refused 8 (closing.due m arrows S T) (length memory) n (sym (c .number) ∙ e) in
-          judged (rw (d, e, c .sets, c .profiles)) (rw d)
+-- where every letter is below k, so is the one at a place
+pub letter-below : (k : ℕ) (w : Word) (i : ℕ) → lettersBelow k w ≡ true → i < length w → getD w i 0 < k
+unfolding lettersBelow
+letter-below k [] i h l = absurd (omega arith)
+letter-below k (a ∷ w) zero h l = ltb-true a k (and-left (ltb a k) (lettersBelow k w) h)
+letter-below k (a ∷ w) (suc i) h l = letter-below k w i (and-right (ltb a k) (lettersBelow k w) h) (omega arith)
 
-  module _ (zero-is : closed .number ≡ 0) where
-    -- the first places hold a table each and nothing else
-    pub stored : Stored P Q
-    unfolding setsIn profilesIn
-    stored =
-        let s = sets-stand in
-        let t = profiles-stand in
-        record {
-          sets-linked = linked _ _ _ _ sets-held (length-take-le _ _ (omega arith)) (simp length-take (omega arith));
-          profiles-linked = linked _ _ _ _ profiles-held (length-take-le _ _ (omega arith)) (simp length-take (omega arith));
-          set-places = simp length-take (omega arith);
-          profile-places = simp length-take (omega arith);
-          mark-places = simp length-take (omega arith);
-          few-sets = simp length-take (omega arith);
-          few-profiles = simp length-take (omega arith);
-        }
-      where
-        sets-held : closing.AllSets m arrows (setsIn P (closed .sets))
-        sets-held = rw sets-part (c .all-sets-stored zero-is)
+module _ (w : Word) {i : ℕ} where
+  -- what is left to read at i is the letter there and what is left after it; or nothing
+  here : i < length w → drop i w ≡ getD w i 0 ∷ drop (i + 1) w
+  here l = rw (add-one, drop-cons w i 0)
 
-        profiles-held : closing.AllProfiles m arrows (profilesIn Q (closed .profiles))
-        profiles-held = rw profiles-part (c .all-profiles-stored zero-is)
+  nothing : length w ≤ i → drop i w ≡ []
+  nothing l = drop-of-length-le w l
 
-    wholly-due : wholly P Q ≡ closing.due m arrows S T
-    unfolding wholly
-    wholly-due =
-        ap₂ (λ es ts. record { number = 0; sets = es; profiles = ts }) sets-read profiles-read
-        ∙ ap (λ n. record { number = n; sets = closing.due m arrows S T .sets; profiles = closing.due m arrows S T .profiles })
-        (sym zero-is ∙ c .number)
-      where
-        sets-read : setsIn P (length (P .masks)) ≡ closing.due m arrows S T .sets
-        sets-read =
-            let s = sets-stand in
-            rw (length-take-le (closed .sets) (S′ .masks) (omega arith), sets-part, c .set-slices, c .sets)
-            (of-sets.setLayout .back _ S)
+  module _ (k : ℕ) (left : lettersBelow k (drop i w) ≡ lettersBelow k w) where
+    pub letter-high : i < length w → k ≤ getD w i 0 → false ≡ lettersBelow k w
+    unfolding lettersBelow
+    letter-high l h = (rw (here l, le-ltb (getD w i 0) k h)) ∙ left
 
-        profiles-read : profilesIn Q (length (Q .arrows)) ≡ closing.due m arrows S T .profiles
-        profiles-read =
-            let t = profiles-stand in
-            rw (length-take-le (closed .profiles) (T′ .arrows) (omega arith), profiles-part, c .profile-slices, c .profiles)
-            (of-profiles.profileLayout .back _ T)
+    pub letter-low : i < length w → getD w i 0 < k → lettersBelow k (drop (i + 1) w) ≡ lettersBelow k w
+    unfolding lettersBelow
+    letter-low l h = (rw (here l, lt-ltb (getD w i 0) k h)) ∙ left
 
-    -- WHAT FOLLOWS from them is what is due
-    pub judges : {memory memory′ : List ℕ} {answer : Answer} → Concludes P Q memory memory′ answer
-        → GivesVerdict m arrows S S′ T T′ memory memory′ answer
-    unfolding verdictIn verdictAnswer closingIn
-    judges {memory} d =
-        let same : verdictFrom 8 (wholly P Q) (length memory) ≡ due m arrows S T memory =
-        ap (λ x. verdictFrom 8 x (length memory)) wholly-due in
-        judged (d .answered ∙ ap tells same) (d .word-memory ∙ ap (λ x. wordMemory x memory) same)
+    pub letters-low : length w ≤ i → true ≡ lettersBelow k w
+    unfolding lettersBelow
+    letters-low l = rw (nothing l) at left
+
+  module _ (W : ℕ) (M : Machine ℕ) where
+    pub set-turn : (P : ℕ) {Q : ℕ} → setFrom W M P (drop i w) ≡ setOf W M w → i < length w → Q ≡ after W M P (getD w i 0)
+        → setFrom W M Q (drop (i + 1) w) ≡ setOf W M w
+    unfolding setFrom
+    set-turn P left l is = rw is (rw (here l) at left)
+
+    pub set-end : {P : ℕ} → setFrom W M P (drop i w) ≡ setOf W M w → length w ≤ i → P ≡ setOf W M w
+    unfolding setFrom
+    set-end left l = rw (nothing l) at left
+
+    pub profile-turn : (t : Profile) {x e : Profile} → profileFrom W M (some t) (drop i w) ≡ profileOf W M w → i < length w
+        → e ≡ eventProfile W M (getD w i 0) → x ≡ join W t e → profileFrom W M (some x) (drop (i + 1) w) ≡ profileOf W M w
+    unfolding profileFrom nextProfile
+    profile-turn t left l event is = rw (is, event) (rw (here l) at left)
+
+    pub profile-end : {t : Profile} → profileFrom W M (some t) (drop i w) ≡ profileOf W M w → length w ≤ i → profileOf W M w ≡ some t
+    unfolding profileFrom
+    profile-end left l = sym (rw (nothing l) at left)
+
+-- before the first letter the set is that of the empty word; after the first letter the profile is that of its event
+module _ (W : ℕ) (M : Machine ℕ) (w : Word) where
+  pub set-start : {P : ℕ} → startSet W M ≡ P → setFrom W M P (drop 0 w) ≡ setOf W M w
+  unfolding setOf
+  set-start e = rw e
+
+  pub profile-start : {t : Profile} → 0 < length w → t ≡ eventProfile W M (getD w 0 0) → profileFrom W M (some t) (drop 1 w) ≡ profileOf W M w
+  unfolding profileOf profileFrom nextProfile
+  profile-start l is = rw (is, here w {i = 0} l)

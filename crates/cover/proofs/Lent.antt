@@ -1,16 +1,21 @@
 -- What an event of a model that is not refused is and does, by its lent number: its profile, and the set that it leads a set to.
 use Prim.Native.Nat.{ℕ, _<_}
-use mathlib.Core.Path.{_≡_, sym, ap, ap₂, _∙_}
+use mathlib.Core.Path.{_≡_, refl, sym, ap, ap₂, _∙_}
 use mathlib.Core.Bool.{Bool, _&&_}
 use lib.ListN.{getD}
 use Rattle.laws.specs.Bits.{bit, cell, grid}
 use Rattle.laws.specs.Model.{Machine, Model, eight, machine}
 use Rattle.laws.specs.Refusals.{Unrefused}
-use Rattle.laws.specs.Profiles.{leadsTo, image, after, eventProfile}
+use Rattle.laws.specs.Profiles.{Profile, leadsTo, image, after, eventProfile}
 use Rattle.laws.proofs.Packing.{bit-fromBits, cell-grid, grid-below, same-cells}
 use Rattle.laws.proofs.Joins.{leads-event, after-event}
 use Rattle.laws.proofs.Unrefused.{home-mask, event-arrows}
 use Rattle.cover.specs.Values.{plain, eventValue}
+
+-- where a profile leads a set, its arrows alone lead it
+pub led-by-arrows : (P : ℕ) (t : Profile) → image 8 P (plain (t .arrows)) ≡ image 8 P t
+unfolding image leadsTo
+led-by-arrows P t = refl
 
 module _ (m : Model) (u : Unrefused eight m) where
   abbrev M : Machine ℕ

@@ -3,8 +3,8 @@ pub mod Searching
 pub mod Flags
 -- what is refused of a model
 pub mod Beyond
--- words that are read, and what is refused of a course
-pub mod Reading
+-- one course: its words read, and what is refused of it
+pub mod Judging
 -- what an event is and does
 pub mod Lent
 -- lent slices, a table filled into them, and the two tables
@@ -21,4 +21,4 @@ pub mod Concluding
 -- what follows from the contracts
 pub mod Promises
 -- the verdict of a model
-pub mod Judging
+pub mod Verdicts

@@ -13,7 +13,7 @@ use Rattle.laws.specs.Answers.{SetSlices, ProfileSlices, setRoom, profileRoom, 
 use Rattle.laws.specs.Answers.{closingOf, words, verdictFrom, verdictAnswer, verdictIn, wordMemory}
 use Rattle.laws.proofs.Booleans.{never}
 use Rattle.laws.proofs.Answered.{closing-within, verdict-within, one-judged}
-use Rattle.laws.proofs.Read.{first-numbers}
+use Rattle.laws.proofs.Read.{first-numbers, course-numbers}
 use Rattle.cover.specs.Values.{asked}
 use Rattle.cover.specs.Memory.{Kept}
 use Rattle.cover.specs.Closing.{Closing, due}
@@ -47,6 +47,23 @@ pub first-k-only : (m : Model) (arrows other : List ℕ) (S : SetSlices) (T : Pr
 unfolding closingIn
 first-k-only m arrows other S T here there same =
     first-numbers (asked m arrows) other same eight here there (setRoom eight S) (profileRoom eight T)
+
+-- so does THE VERDICT
+pub verdict-first-k : (m : Model) (arrows other : List ℕ) (S : SetSlices) (T : ProfileSlices) (memory : List ℕ) → m .k ≤ length arrows
+    → m .k ≤ length other → take (m .k) arrows ≡ take (m .k) other → verdict-due m arrows S T memory ≡ verdict-due m other S T memory
+unfolding verdictIn verdictAnswer closingIn
+verdict-first-k m arrows other S T memory here there same =
+    ap (λ c. verdictFrom 8 c (length memory)) (first-k-only m arrows other S T here there same)
+
+-- and JUDGING ONE COURSE: what is right for one slice of arrows is right for the other
+pub course-first-k : (m : Model) (arrows other : List ℕ) → m .k ≤ length arrows → m .k ≤ length other
+    → take (m .k) arrows ≡ take (m .k) other → (u v : Word) (answer : Judgement) → JudgesCourse m arrows u v answer
+    → JudgesCourse m other u v answer
+course-first-k m arrows other here there same u v answer c =
+    record {
+      course = course-numbers (asked m arrows) other same eight here there u v (number answer) (accepted answer) (c .course);
+      said-with-0 = c .said-with-0;
+    }
 
 module _ {m : Model} {arrows : List ℕ} {S S′ : SetSlices} {T T′ : ProfileSlices} {answer : Closed}
     (c : Closing m arrows S S′ T T′ answer) where
@@ -161,7 +178,7 @@ module _ {m : Model} {arrows : List ℕ} {S S′ : SetSlices} {T T′ : ProfileS
       → {S″ : SetSlices} {T″ : ProfileSlices} {memory″ : List ℕ} {other : CoverVerdict} → Exports m arrows S S″ T T″ memory memory″ other
       → (result ≡ other) × (S′ ≡ S″) × (T′ ≡ T″) × (memory′ ≡ memory″)
   one-export e f =
-      let (answer, sets, profiles, memory) = one-verdict (e .judges) (f .judges) in
+      let (answer, sets, profiles, memory) = one-verdict (e .verdict) (f .verdict) in
       (e .numbers ∙ ap inNumbers answer ∙ sym (f .numbers), sets, profiles, memory)
 
 -- a judgement is its number, whether it is said, and whether the course is accepted

@@ -25,7 +25,7 @@ pub enum Answer {
     },
 }
 
-// The verdict on complete tables, which stand in slices that hold nothing else.
+// The verdict on tables that stand in slices which hold nothing else.
 pub fn conclude(
     masks: &[u8],
     set_from: &[u16],

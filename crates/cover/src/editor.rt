@@ -6,11 +6,11 @@ use crate::answer::Answer;
 use crate::model::Model;
 
 // The verdict as a number; include/cover.h has the same.
-pub const NO_VERDICT: u8 = 0;
+const NO_VERDICT: u8 = 0;
 
-pub const COVERED: u8 = 1;
+const COVERED: u8 = 1;
 
-pub const UNCOVERED: u8 = 2;
+const UNCOVERED: u8 = 2;
 
 // The verdict's answer as numbers; include/cover.h declares the same.
 #[repr(C)]

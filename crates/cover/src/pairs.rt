@@ -50,11 +50,11 @@ fn is_rejecting(set: u8, t: Profile) -> bool
     if led != set {
         return false;
     }
-    let square = join(t, t);
-    if !is_same(square, t) {
+    if marks_round(set, t) {
         return false;
     }
-    !marks_round(set, t)
+    let square = join(t, t);
+    is_same(square, t)
 }
 
 // Goes through the sets, and for each through all profiles, and leaves both loops at the first pair that rejects.

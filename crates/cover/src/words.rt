@@ -7,7 +7,7 @@ use crate::table::NO_ENTRY;
 use crate::table::NO_EVENT;
 
 // How many letters the word of entry i has.
-pub fn count(from: &[u16], event: &[u8], i: usize) -> usize
+fn count(from: &[u16], event: &[u8], i: usize) -> usize
     requires { ⌜ (i < length (now from)) × Linked (now from) (now event) ⌝ }
     ensures { λ r. ⌜ r ≡ length (wordIn (now (from .entry)) (now (event .entry)) i) ⌝ }
 {
@@ -22,7 +22,7 @@ pub fn count(from: &[u16], event: &[u8], i: usize) -> usize
 }
 
 // Writes the word of entry i to a part that has exactly its length.
-pub fn write(from: &[u16], event: &[u8], i: usize, out: &mut [u8])
+fn write(from: &[u16], event: &[u8], i: usize, out: &mut [u8])
     requires { ⌜ (i < length (now from)) × Linked (now from) (now event) ⌝ }
     requires { ⌜ length (now out) ≡ length (wordIn (now from) (now event) i) ⌝ }
     ensures { λ _. ⌜ now (out .exit) ≡ wordIn (now (from .entry)) (now (event .entry)) i ⌝ }

@@ -77,7 +77,7 @@ same-bits (suc N) x y hx hy h =
     go false e f = omega (arith, eqb-false)
 
 -- of two numbers below 2^N, one that has all bits of the other is not below it
-pub more-bits : (N x y : ℕ) → x < 2 ^ N → y < 2 ^ N → ((i : ℕ) → i < N → bit x i ≡ true → bit y i ≡ true) → x ≤ y
+more-bits : (N x y : ℕ) → x < 2 ^ N → y < 2 ^ N → ((i : ℕ) → i < N → bit x i ≡ true → bit y i ≡ true) → x ≤ y
 more-bits zero x y hx hy h = omega arith
 more-bits (suc N) x y hx hy h =
     let double = pow-succ' 2 N in

@@ -2,18 +2,19 @@
 -- other, and so does every answer.
 use Prim.Native.Nat.{ℕ, _<_, _≤_}
 use mathlib.Core.Path.{_≡_, refl, sym, ap, _∙_, subst, fun-ext}
-use mathlib.Core.Bool.{Bool, true, false, _&&_}
-use mathlib.Core.List.{List}
+use mathlib.Core.Bool.{Bool, true, false, not, _&&_}
+use mathlib.Core.List.{List, [], _∷_, _++_}
 use lib.ListN.{length, take, getD}
 use lib.Seq.{getD-take}
 use lib.Dec.{ltb}
 use borrow.Author.Tests.{ltb-true, le-ltb}
 use Rattle.laws.specs.Bits.{cell}
-use Rattle.laws.specs.Model.{Kind, Model, isState, leads, machine}
-use Rattle.laws.specs.Refusals.{firstOf, modelChecks}
+use Rattle.laws.specs.Words.{Word, lettersBelow, empty}
+use Rattle.laws.specs.Model.{Kind, Model, isState, leads, machine, Accepted}
+use Rattle.laws.specs.Refusals.{Check, firstOf, refuse, modelChecks, courseChecks}
 use Rattle.laws.specs.Tables.{Entry}
 use Rattle.laws.specs.Profiles.{Profile, HoldsSets, HoldsProfiles}
-use Rattle.laws.specs.Answers.{closingAnswer, closingOf}
+use Rattle.laws.specs.Answers.{closingAnswer, closingOf, CourseAnswer}
 use Rattle.laws.proofs.Complete.{sets-closing, profiles-closing}
 use Rattle.laws.proofs.Answered.{closing-listed}
 
@@ -51,6 +52,20 @@ module _ (m : Model) (arrows : List ℕ) (same : take (m .k) (m .arrows) ≡ tak
     checks-same : modelChecks K m ≡ modelChecks K (withArrows m arrows)
     unfolding modelChecks
     checks-same = rw (le-ltb (length (m .arrows)) (m .k) here, le-ltb (length arrows) (m .k) there, same)
+
+    -- ONE COURSE is judged by the first k numbers alone
+    pub course-numbers : (u v : Word) (n : ℕ) (b : Bool) → CourseAnswer K m u v n b → CourseAnswer K (withArrows m arrows) u v n b
+    unfolding courseChecks
+    course-numbers u v n b c =
+        record {
+          number-is = c .number-is ∙ ap (λ checks. firstOf (checks ++ own) .number) checks-same;
+          yes-with-0 = c .yes-with-0;
+          yes-only-if = λ h. subst (λ M. Accepted M u v) (machine-same (K .states)) (c .yes-only-if h);
+          yes-if = λ z a. c .yes-if z (subst (λ M. Accepted M u v) (sym (machine-same (K .states))) a);
+        }
+      where
+        own : List Check
+        own = refuse 10 (empty v) ∷ refuse 9 (not (lettersBelow (m .k) u && lettersBelow (m .k) v)) ∷ []
 
     -- what is listed for all sets and all profiles is the same
     listed-same : (a b : ℕ) (sets : List (Entry ℕ)) (profiles : List (Entry Profile))

@@ -17,10 +17,9 @@ use Rattle.laws.specs.Repeats.{union, MarksLed, Repeats, acceptedFrom}
 use Rattle.laws.proofs.Booleans.{or-left, or-right, or-cases, both, never, some-below, below-both}
 use Rattle.laws.proofs.Packing.{cell-grid, grid-below, more-cells}
 use Rattle.laws.proofs.Powers.{times-add}
-use Rattle.laws.proofs.Paths.{HomePath}
 use Rattle.laws.proofs.Joins.{Small, Via, join-leads, leads-via, join-marks, marks-via, join-assoc, image-has, image-from}
-use Rattle.laws.proofs.Meaning.{path-below, profile-means, set-of-two, set-means, marked-round, round-marked}
-use Rattle.laws.proofs.Rounds.{power-profile}
+use Rattle.laws.proofs.Meaning.{profile-means, set-of-two}
+use Rattle.laws.proofs.Rounds.{power-profile, marked-accepted, accepted-marked}
 
 module _ (W : ℕ) where
   -- t leads from p to q, or marks that: what is shown of both is shown once
@@ -50,7 +49,7 @@ module _ (W : ℕ) where
     union-right b p q hp hq h = union-has b p q hp hq ∙ or-right (has b s p q) h
 
     -- and is small
-    pub union-small : Small W (union W s t)
+    union-small : Small W (union W s t)
     unfolding union
     union-small =
         record {
@@ -70,12 +69,12 @@ module _ (W : ℕ) where
 
   module _ (c x : Profile) (small : Small W c) where
     -- UNION NEVER LOWERS A NUMBER
-    pub union-arrows : c .arrows ≤ union W c x .arrows
+    union-arrows : c .arrows ≤ union W c x .arrows
     unfolding leadsTo
     union-arrows =
         more-cells W (c .arrows) (union W c x .arrows) (small .arrows-below) (union-small c x .arrows-below) (union-left c x false)
 
-    pub union-marks : c .marks ≤ union W c x .marks
+    union-marks : c .marks ≤ union W c x .marks
     unfolding marked
     union-marks = more-cells W (c .marks) (union W c x .marks) (small .marks-below) (union-small c x .marks-below) (union-left c x true)
 
@@ -199,19 +198,7 @@ module _ (W : ℕ) (M : Machine ℕ) (within : Within W M) where
     accepted-at : (i r : ℕ) → r < W → bit (setOf W M (u ++ power i v)) r ≡ true → marked W c r r ≡ true → Accepted M u v
     accepted-at i r r-below r-in m =
         let (n, n-marks) = all .marks r r r-below r-below .0 m in
-        let back = marked-round W M within (power (suc n) v) (repeat W n t) r (round n) r-below n-marks in
-        let (p, p-starts, reach) = set-means W M within (u ++ power i v) .only-reached r r-in in
-        record {
-          i = i;
-          j = suc n;
-          r = r;
-          from = p;
-          from-start = p-starts;
-          reach = reach;
-          j-from-1 = omega arith;
-          round = back .path;
-          round-homed = back .home;
-        }
+        marked-accepted W M within u v (repeat W n t) i (suc n) r (omega arith) (round n) r-below r-in n-marks
 
     -- where c leads the set of u, repeats of v lead too
     there : acceptedFrom W (setOf W M u) c ≡ true → Accepted M u v
@@ -227,11 +214,11 @@ module _ (W : ℕ) (M : Machine ℕ) (within : Within W M) where
         accepted-at (suc n) r r-below (rw (set-behind n) (image-has W P (repeat W n t) p r p-below r-below p-in n-leads)) m)
         (or-cases (marksRound W P c) (marksRound W (image W P c) c) e)
 
-    -- a state with a round of a home state has a marked way back to itself
-    back-marked : (j r : ℕ) → r < W → 1 ≤ j → HomePath M r (power j v) r → marked W c r r ≡ true
-    back-marked zero r r-below l s = absurd (omega arith)
-    back-marked (suc n) r r-below l s =
-        all .marks r r r-below r-below .1 (n, round-marked W M within (power (suc n) v) (repeat W n t) r (round n) r-below s)
+    -- a way back to itself that v read j times marks is marked in c
+    back-marked : (j r : ℕ) → r < W → 1 ≤ j → ((s : Profile) → profileOf W M (power j v) ≡ some s → marked W s r r ≡ true)
+        → marked W c r r ≡ true
+    back-marked zero r r-below l marks = absurd (omega arith)
+    back-marked (suc n) r r-below l marks = all .marks r r r-below r-below .1 (n, marks (repeat W n t) (round n))
 
     -- what is reached behind u and repeats of v is in the set of u, or where c leads that
     behind-in : (i r : ℕ) → r < W → bit (setOf W M (u ++ power i v)) r ≡ true → marked W c r r ≡ true
@@ -252,8 +239,5 @@ module _ (W : ℕ) (M : Machine ℕ) (within : Within W M) where
       where
         back : Accepted M u v → acceptedFrom W (setOf W M u) c ≡ true
         back run =
-            let r : ℕ = run .r in
-            let r-below = path-below W M within (within .start-below (run .from) (run .from-start)) (run .reach) in
-            let r-in = set-means W M within (u ++ power (run .i) v) .reached (run .from) r (run .from-start) (run .reach) in
-            let m = back-marked (run .j) r r-below (run .j-from-1) (record { path = run .round; home = run .round-homed }) in
-            behind-in (run .i) r r-below r-in m
+            let (r-below, r-in, marks) = accepted-marked W M within u v run in
+            behind-in (run .i) (run .r) r-below r-in (back-marked (run .j) (run .r) r-below (run .j-from-1) marks)

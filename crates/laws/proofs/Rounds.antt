@@ -8,13 +8,14 @@ use mathlib.Core.List.{_++_, append-nil}
 use mathlib.Core.Option.{some}
 use lib.Dec.{eqb}
 use borrow.Author.Tests.{eqb-true, eq-eqb}
-use Rattle.laws.specs.Bits.{bit, someBelow, times}
+use Rattle.laws.specs.Bits.{bit, times}
 use Rattle.laws.specs.Words.{Word, power, empty}
 use Rattle.laws.specs.Model.{Machine, Path, Accepted, Within}
 use Rattle.laws.specs.Profiles.{Profile, sameProfile, marked, join, image, isFitting, marksRound, isRejecting, startSet}
 use Rattle.laws.specs.Profiles.{setFrom, setOf, profileOf}
 use Rattle.laws.proofs.Booleans.{both, and-left, and-right, never, some-below, below-both}
 use Rattle.laws.proofs.Packing.{no-bit}
+use Rattle.laws.proofs.Paths.{HomePath}
 use Rattle.laws.proofs.Joins.{same-equal, equal-same, image-join}
 use Rattle.laws.proofs.Idempotent.{idempotent}
 use Rattle.laws.proofs.Meaning.{path-below, has-profile, profile-of-two, set-append, set-image, set-of-two, set-means, marked-round}
@@ -95,24 +96,38 @@ module _ (W : ℕ) (M : Machine ℕ) where
       record { m = m; e = e; m-from-1 = m-from-1; round-profile = round; pair-fits = image-fits W P e back i }
 
   module _ (within : Within W M) where
-    -- WHERE THE SETTLING PAIR DOES NOT REJECT, the course is accepted
-    pub accepts : (u v : Word) (s : Settled u v) → isRejecting W (setOf W M (u ++ power (s .m) v)) (s .e) ≡ false → Accepted M u v
-    accepts u v s h =
-        let w : Word = u ++ power (s .m) v in
-        let (r, r-below, r-in, m) = fitting-marked W (setOf W M w) (s .e) (s .pair-fits) h in
-        let (p, p-starts, reach) = set-means W M within w .only-reached r r-in in
-        let back = marked-round W M within (power (s .m) v) (s .e) r (s .round-profile) r-below m in
+    -- A COURSE IS ACCEPTED BY a state behind u and rounds of v that some rounds of v lead back to itself, marked
+    pub marked-accepted : (u v : Word) (t : Profile) (i j r : ℕ) → 1 ≤ j → profileOf W M (power j v) ≡ some t → r < W
+        → bit (setOf W M (u ++ power i v)) r ≡ true → marked W t r r ≡ true → Accepted M u v
+    marked-accepted u v t i j r j-from-1 round r-below r-in m =
+        let (p, p-starts, reach) = set-means W M within (u ++ power i v) .only-reached r r-in in
+        let back = marked-round W M within (power j v) t r round r-below m in
         record {
-          i = s .m;
-          j = s .m;
+          i = i;
+          j = j;
           r = r;
           from = p;
           from-start = p-starts;
           reach = reach;
-          j-from-1 = s .m-from-1;
+          j-from-1 = j-from-1;
           round = back .path;
           round-homed = back .home;
         }
+
+    -- and what accepts a course is such a state
+    pub accepted-marked : (u v : Word) (run : Accepted M u v) → (run .r < W) × (bit (setOf W M (u ++ power (run .i) v)) (run .r) ≡ true)
+        × ((t : Profile) → profileOf W M (power (run .j) v) ≡ some t → marked W t (run .r) (run .r) ≡ true)
+    accepted-marked u v run =
+        let r-below = path-below W M within (within .start-below (run .from) (run .from-start)) (run .reach) in
+        let r-in = set-means W M within (u ++ power (run .i) v) .reached (run .from) (run .r) (run .from-start) (run .reach) in
+        let back : HomePath M (run .r) (power (run .j) v) (run .r) = record { path = run .round; home = run .round-homed } in
+        (r-below, r-in, λ t p. round-marked W M within (power (run .j) v) t (run .r) p r-below back)
+
+    -- WHERE THE SETTLING PAIR DOES NOT REJECT, the course is accepted
+    pub accepts : (u v : Word) (s : Settled u v) → isRejecting W (setOf W M (u ++ power (s .m) v)) (s .e) ≡ false → Accepted M u v
+    accepts u v s h =
+        let (r, r-below, r-in, m) = fitting-marked W (setOf W M (u ++ power (s .m) v)) (s .e) (s .pair-fits) h in
+        marked-accepted u v (s .e) (s .m) (s .m) r (s .m-from-1) (s .round-profile) r-below r-in m
 
     -- a round that leads P to P does so as often as one likes
     sets-stay : (P : ℕ) (v : Word) (t : Profile) → profileOf W M v ≡ some t → image W P t ≡ P → (i : ℕ) → setFrom W M P (power i v) ≡ P
@@ -137,11 +152,9 @@ module _ (W : ℕ) (M : Machine ℕ) where
         let w : Word = power (run .i) v in
         let fits = rejecting-fits W P t h in
         let stays : setOf W M (u ++ w) ≡ P = set-append W M (startSet W M) u w ∙ sets-stay P v t p (fits-image W P t fits) (run .i) in
-        let r-below = path-below W M within (within .start-below (run .from) (run .from-start)) (run .reach) in
-        let r-in = set-means W M within (u ++ w) .reached (run .from) (run .r) (run .from-start) (run .reach) in
+        let (r-below, r-in, marks) = accepted-marked u v run in
         let back = profiles-stay v t p (fits-join W P t fits) (run .j) (run .j-from-1) in
-        rejecting-unmarked W P t h (run .r) r-below (rw stays at r-in)
-        (round-marked W M within (power (run .j) v) t (run .r) back r-below (record { path = run .round; home = run .round-homed }))
+        rejecting-unmarked W P t h (run .r) r-below (rw stays at r-in) (marks t back)
 
     -- nothing is reached where the set is empty
     pub no-path : (u : Word) → setOf W M u ≡ 0 → (p q : ℕ) → M .start p ≡ true → Path M p u q → ⊥

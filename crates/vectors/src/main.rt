@@ -177,10 +177,10 @@ fn show_different(
     print(mix(mix(all.sum, some.sum), few.sum), b'\n');
 }
 
-// From which slice on each is lent too short: none where the model itself is refused, and only those from `late` on where there are many
+// From which slice on each is lent too short: none where the model itself is refused, and so has no set, and only those from `late` on where there are many
 // profiles.
 fn first_short(seen: Seen, none: usize, late: usize) -> usize {
-    if 0 < seen.number && seen.number < 4 {
+    if seen.sets == 0 {
         return none;
     }
     if MANY < seen.profiles { late } else { 0 }
@@ -196,7 +196,7 @@ fn show_rooms(call: Call, m: Model, arrows: &[u64], from: usize, to: usize, seen
     show_different(call, m, arrows, seen.sets, seen.profiles, words);
 }
 
-// Closing with memory enough, and then both calls as asked for.
+// What is asked for: courses, or closing and the verdict with long slices, or closing with memory enough, and then both calls in full.
 fn show(m: Model, arrows: &[u64], asked: u8) {
     if asked == COURSES {
         show_courses(m, arrows);

@@ -20,7 +20,7 @@ pub const PROFILES: usize = 2052;
 
 pub const WORDS: usize = 2308;
 
-pub const LONGEST: usize = 65537;
+const LONGEST: usize = 65537;
 
 // Which call is run.
 pub enum Call {
@@ -153,43 +153,10 @@ fn mix_profiles(start: u64, leads: &[u64], marks: &[u64], from: &[u16], event: &
     )
 }
 
-// Of each slice as much is lent as lengths says.
-fn close_parts(
+fn called(
+    call: Call,
     m: Model,
     arrows: &[u64],
-    lengths: [usize; 8],
-    masks: &mut [u8],
-    set_from: &mut [u16],
-    set_event: &mut [u8],
-    leads: &mut [u64],
-    marks: &mut [u64],
-    profile_from: &mut [u16],
-    profile_event: &mut [u8],
-) -> Closed {
-    let a = least(lengths[0], masks.len());
-    let b = least(lengths[1], set_from.len());
-    let c = least(lengths[2], set_event.len());
-    let d = least(lengths[3], leads.len());
-    let e = least(lengths[4], marks.len());
-    let f = least(lengths[5], profile_from.len());
-    let g = least(lengths[6], profile_event.len());
-    cover::close(
-        m,
-        arrows,
-        &mut masks[..a],
-        &mut set_from[..b],
-        &mut set_event[..c],
-        &mut leads[..d],
-        &mut marks[..e],
-        &mut profile_from[..f],
-        &mut profile_event[..g],
-    )
-}
-
-fn verdict_parts(
-    m: Model,
-    arrows: &[u64],
-    lengths: [usize; 8],
     masks: &mut [u8],
     set_from: &mut [u16],
     set_event: &mut [u8],
@@ -198,30 +165,36 @@ fn verdict_parts(
     profile_from: &mut [u16],
     profile_event: &mut [u8],
     words: &mut [u8],
-) -> Answer {
-    let a = least(lengths[0], masks.len());
-    let b = least(lengths[1], set_from.len());
-    let c = least(lengths[2], set_event.len());
-    let d = least(lengths[3], leads.len());
-    let e = least(lengths[4], marks.len());
-    let f = least(lengths[5], profile_from.len());
-    let g = least(lengths[6], profile_event.len());
-    let h = least(lengths[7], words.len());
-    cover::verdict(
-        m,
-        arrows,
-        &mut masks[..a],
-        &mut set_from[..b],
-        &mut set_event[..c],
-        &mut leads[..d],
-        &mut marks[..e],
-        &mut profile_from[..f],
-        &mut profile_event[..g],
-        &mut words[..h],
-    )
+) -> Seen {
+    match call {
+        Call::Close => seen_closed(cover::close(
+            m,
+            arrows,
+            masks,
+            set_from,
+            set_event,
+            leads,
+            marks,
+            profile_from,
+            profile_event,
+        )),
+        Call::Verdict => seen_concluded(cover::verdict(
+            m,
+            arrows,
+            masks,
+            set_from,
+            set_event,
+            leads,
+            marks,
+            profile_from,
+            profile_event,
+            words,
+        )),
+    }
 }
 
-fn called(
+// Of each slice as much is lent as lengths says.
+fn called_with(
     call: Call,
     m: Model,
     arrows: &[u64],
@@ -235,33 +208,27 @@ fn called(
     profile_event: &mut [u8],
     words: &mut [u8],
 ) -> Seen {
-    match call {
-        Call::Close => seen_closed(close_parts(
-            m,
-            arrows,
-            lengths,
-            masks,
-            set_from,
-            set_event,
-            leads,
-            marks,
-            profile_from,
-            profile_event,
-        )),
-        Call::Verdict => seen_concluded(verdict_parts(
-            m,
-            arrows,
-            lengths,
-            masks,
-            set_from,
-            set_event,
-            leads,
-            marks,
-            profile_from,
-            profile_event,
-            words,
-        )),
-    }
+    let a = least(lengths[0], masks.len());
+    let b = least(lengths[1], set_from.len());
+    let c = least(lengths[2], set_event.len());
+    let d = least(lengths[3], leads.len());
+    let e = least(lengths[4], marks.len());
+    let f = least(lengths[5], profile_from.len());
+    let g = least(lengths[6], profile_event.len());
+    let h = least(lengths[7], words.len());
+    called(
+        call,
+        m,
+        arrows,
+        &mut masks[..a],
+        &mut set_from[..b],
+        &mut set_event[..c],
+        &mut leads[..d],
+        &mut marks[..e],
+        &mut profile_from[..f],
+        &mut profile_event[..g],
+        &mut words[..h],
+    )
 }
 
 fn run_filled(
@@ -278,7 +245,7 @@ fn run_filled(
     profile_event: &mut [u8],
     words: &mut [u8],
 ) -> Seen {
-    let mut seen = called(
+    let mut seen = called_with(
         call,
         m,
         arrows,

@@ -7,7 +7,7 @@ pub fn wide(x: u8) -> u64
     x as u64
 }
 
-pub fn wider(x: u16) -> u64 {
+fn wider(x: u16) -> u64 {
     x as u64
 }
 
@@ -22,7 +22,7 @@ pub fn one_below(x: usize) -> usize {
 }
 
 // Sixteen bits go into the sum.
-pub fn mix_part(sum: u64, x: u64) -> u64
+fn mix_part(sum: u64, x: u64) -> u64
     ensures { λ r. ⌜ r < 4294967291 ⌝ }
 {
     (sum % 4294967291 * 65599 + x % 65536) % 4294967291
@@ -59,7 +59,7 @@ pub fn mix_words(sum: u64, s: &[u64]) -> u64 {
 }
 
 // What stands in place i before a run: with tone 0 all zeros, else another number in nearly every place.
-pub fn noise(tone: u64, i: usize) -> u64
+fn noise(tone: u64, i: usize) -> u64
     ensures { λ r. ⌜ r < 65536 ⌝ }
 {
     if tone == 0 {

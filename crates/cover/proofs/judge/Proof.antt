@@ -15,7 +15,7 @@ use Rattle.cover.specs.Values.{asked}
 use Rattle.cover.specs.Courses.{number, accepted, isSaid, JudgesCourse, Readable}
 use Rattle.cover.specs.declared.model.Model.{Model}
 use Rattle.cover.specs.declared.course.Judgement.the-variants.{Accepted, Rejected, Refused}
-use Rattle.cover.proofs.Reading.{course-asked}
+use Rattle.cover.proofs.Judging.{course-asked}
 use Rattle.cover.proofs.judge.Statement.{statement}
 use Rattle.cover.proofs.judge.Tie as tie
 

@@ -4,7 +4,7 @@ use native.Mathlib.Nat.{le-trans}
 use mathlib.Core.Path.{sym}
 use lib.Seq.{length-take-le}
 use borrow.Author.Needs.{needs}
-use Rattle.cover.proofs.Judging.{sets-stand, profiles-stand, refuses, stored, judges}
+use Rattle.cover.proofs.Verdicts.{sets-stand, profiles-stand, refuses, stored, judges}
 use Rattle.cover.proofs.verdict.Statement.{statement}
 use Rattle.cover.proofs.verdict.Tie as tie
 

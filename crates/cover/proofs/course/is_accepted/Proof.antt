@@ -8,12 +8,13 @@ use borrow.Author.Needs.{needs}
 use Rattle.laws.specs.Words.{Word}
 use Rattle.laws.specs.Model.{Model, eight, machine, Accepted}
 use Rattle.laws.specs.Refusals.{Unrefused}
-use Rattle.laws.specs.Profiles.{Profile, leadsTo, image, marksRound, setOf, profileOf}
+use Rattle.laws.specs.Profiles.{Profile, image, marksRound, setOf, profileOf}
 use Rattle.laws.specs.Repeats.{Repeats, acceptedFrom}
 use Rattle.laws.proofs.Booleans.{or-left}
 use Rattle.laws.proofs.Meaning.{machine-within}
 use Rattle.laws.proofs.Repeats.{word-led, accepted-from}
 use Rattle.cover.specs.Values.{plain}
+use Rattle.cover.proofs.Lent.{led-by-arrows}
 use Rattle.cover.proofs.course.is_accepted.Statement.{statement}
 use Rattle.cover.proofs.course.is_accepted.Tie as tie
 
@@ -25,8 +26,8 @@ module _ (set : ℕ) (all : Profile) {at-once : Bool} (e : at-once ≡ marksRoun
 
   second : {led : ℕ} {later : Bool} → at-once ≡ false → led ≡ image 8 set (plain (all .arrows)) → later ≡ marksRound 8 led all
       → later ≡ acceptedFrom 8 set all
-  unfolding acceptedFrom image leadsTo
-  second fails l f = f ∙ ap (λ P. marksRound 8 P all) l ∙ ap (λ b. b || marksRound 8 (image 8 set all) all) (sym fails ∙ e)
+  unfolding acceptedFrom
+  second fails l f = f ∙ ap (λ P. marksRound 8 P all) (l ∙ led-by-arrows set all) ∙ ap (λ b. b || marksRound 8 (image 8 set all) all) (sym fails ∙ e)
 
 -- they say whether the course is accepted
 judged : {m : Model} {u v : Word} {t all : Profile} {set : ℕ} {b : Bool} → Unrefused eight m → set ≡ setOf 8 (machine 8 m) u

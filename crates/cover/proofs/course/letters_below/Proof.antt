@@ -5,7 +5,7 @@ use mathlib.Core.Path.{_≡_, refl}
 use lib.ListN.{length, drop}
 use borrow.Author.Needs.{needs}
 use Rattle.laws.specs.Words.{lettersBelow}
-use Rattle.cover.proofs.Reading.{letter-high, letter-low, letters-low}
+use Rattle.cover.proofs.Judging.{letter-high, letter-low, letters-low}
 use Rattle.cover.proofs.course.letters_below.Statement.{statement}
 use Rattle.cover.proofs.course.letters_below.Tie as tie
 

@@ -8,7 +8,7 @@ use borrow.Author.Needs.{needs}
 use Rattle.laws.specs.Model.{machine}
 use Rattle.laws.specs.Profiles.{profileFrom, profileOf}
 use Rattle.cover.specs.Values.{asked, profile}
-use Rattle.cover.proofs.Reading.{some-letter, letter-below, profile-start, profile-turn, profile-end}
+use Rattle.cover.proofs.Judging.{some-letter, letter-below, profile-start, profile-turn, profile-end}
 use Rattle.cover.proofs.course.profile_of_word.Statement.{statement}
 use Rattle.cover.proofs.course.profile_of_word.Tie as tie
 
@@ -31,7 +31,7 @@ profile-of-requires c κs =
     (r .model, letter-below _ _ 0 (r .letters) (some-letter _ there))
 
 loop-holds : tie.Need-loop-holds Inv-loop μ-loop
-loop-holds c = profile-start _ _ (some-letter _ (c .before .before .before .before .pre .1)) (c .profile-of .ensures)
+loop-holds c = profile-start 8 _ _ (some-letter _ (c .before .before .before .before .pre .1)) (c .profile-of .ensures)
 
 shared-slice-read-profile-of-2 : tie.Need-shared-slice-read-profile-of-2 Inv-loop μ-loop
 shared-slice-read-profile-of-2 c = search needs
@@ -56,10 +56,10 @@ loop-less c = search needs
 loop-again : tie.Need-loop-again Inv-loop μ-loop
 loop-again c =
     let d = c .before .before .before in
-    profile-turn _ _ _ (d .before .loop .inv) (d .loop-test .taken) (c .before .profile-of2 .ensures) (c .join .ensures)
+    profile-turn _ 8 _ _ (d .before .loop .inv) (d .loop-test .taken) (c .before .profile-of2 .ensures) (c .join .ensures)
 
 returns : tie.Need-returns Inv-loop μ-loop
-returns c = profile-end _ _ (c .before .loop .inv) (c .loop-test .left)
+returns c = profile-end _ 8 _ (c .before .loop .inv) (c .loop-test .left)
 
 pub profile-of-word-spec : {M : Type 1} → statement M
 profile-of-word-spec =

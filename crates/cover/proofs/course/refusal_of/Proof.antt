@@ -4,7 +4,7 @@ use mathlib.Core.Bool.{Bool, true, false, not}
 use borrow.Author.Needs.{needs}
 use borrow.Author.Tests.{not-true, not-false, eq-eqb, ne-eqb}
 use Rattle.laws.specs.Model.{eight}
-use Rattle.cover.proofs.Reading.{empty-length, by-model, by-empty, by-beginning, by-round, by-none}
+use Rattle.cover.proofs.Judging.{empty-length, by-model, by-empty, by-beginning, by-round, by-none}
 use Rattle.cover.proofs.course.refusal_of.Statement.{statement}
 use Rattle.cover.proofs.course.refusal_of.Tie as tie
 

@@ -8,7 +8,7 @@ use Rattle.laws.specs.Model.{eight, machine}
 use Rattle.laws.specs.Profiles.{setFrom, setOf}
 use Rattle.laws.proofs.Unrefused.{start-mask}
 use Rattle.cover.specs.Values.{asked}
-use Rattle.cover.proofs.Reading.{letter-below, set-start, set-turn, set-end}
+use Rattle.cover.proofs.Judging.{letter-below, set-start, set-turn, set-end}
 use Rattle.cover.proofs.course.set_of.Statement.{statement}
 use Rattle.cover.proofs.course.set_of.Tie as tie
 
@@ -19,7 +19,7 @@ abbrev μ-loop : tie.MeasureT-loop
 μ-loop m arrows w set₀ i₀ set i = length w - i
 
 loop-holds : tie.Need-loop-holds Inv-loop μ-loop
-loop-holds c = set-start _ _ (start-mask eight _ (c .before .before .pre .model))
+loop-holds c = set-start 8 _ _ (start-mask eight _ (c .before .before .pre .model))
 
 shared-slice-read-after : tie.Need-shared-slice-read-after Inv-loop μ-loop
 shared-slice-read-after c = search needs
@@ -39,10 +39,10 @@ loop-less : tie.Need-loop-less Inv-loop μ-loop
 loop-less c = search needs
 
 loop-again : tie.Need-loop-again Inv-loop μ-loop
-loop-again c = set-turn _ _ _ (c .before .before .before .loop .inv) (c .before .before .loop-test .taken) (c .after .ensures)
+loop-again c = set-turn _ 8 _ _ (c .before .before .before .loop .inv) (c .before .before .loop-test .taken) (c .after .ensures)
 
 returns : tie.Need-returns Inv-loop μ-loop
-returns c = set-end _ _ (c .before .loop .inv) (c .loop-test .left)
+returns c = set-end _ 8 _ (c .before .loop .inv) (c .loop-test .left)
 
 pub set-of-spec : {M : Type 1} → statement M
 set-of-spec =

@@ -42,7 +42,7 @@ returns c =
     let e = c .before .before .before .before .before .before .before .before in
     record {
       answer = _;
-      judges = e .before .before .before .before .before .before .before .before .before .verdict .ensures;
+      verdict = e .before .before .before .before .before .before .before .before .before .verdict .ensures;
       numbers = c .plain .ensures;
     }
 

@@ -1,7 +1,8 @@
 -- Each arm of the match is given which case the answer is, at which `inNumbers` computes.
 use mathlib.Core.Path.{sym, ap}
 use borrow.Author.Needs.{needs}
-use Rattle.cover.specs.Editor.{inNumbers}
+use Rattle.cover.specs.Verdicts.{told}
+use Rattle.cover.specs.Editor.{code, inNumbers}
 use Rattle.cover.proofs.editor.plain.Statement.{statement}
 use Rattle.cover.proofs.editor.plain.Tie as tie
 
@@ -15,15 +16,15 @@ enum-known-answer-3 : tie.Need-enum-known-answer-3
 enum-known-answer-3 c = search needs
 
 returns : tie.Need-returns
-unfolding inNumbers
+unfolding inNumbers told code
 returns c = sym (ap inNumbers (c .before .answer .given .1))
 
 returns-2 : tie.Need-returns-2
-unfolding inNumbers
+unfolding inNumbers told code
 returns-2 c = sym (ap inNumbers (c .before .answer2 .given .1))
 
 returns-3 : tie.Need-returns-3
-unfolding inNumbers
+unfolding inNumbers told code
 returns-3 c = sym (ap inNumbers (c .before .answer3 .given .1))
 
 pub plain-spec : {M : Type 1} → statement M
