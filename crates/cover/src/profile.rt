@@ -89,29 +89,13 @@ pub fn join(s: Profile, t: Profile) -> Profile
     }
 }
 
-// One of two numbers has bit i.
-fn either(x: u64, y: u64, i: usize) -> bool
-    requires { ⌜ i < 64 ⌝ }
-    ensures { λ b. ⌜ b ≡ (bit x i || bit y i) ⌝ }
-{
-    has(x, i) | has(y, i)
-}
-
 // Leads and marks where s or t does.
 pub fn union(s: Profile, t: Profile) -> Profile
     ensures { λ x. ⌜ profile x ≡ united 8 (profile s) (profile t) ⌝ }
 {
-    let mut leads = [false; 64];
-    let mut marks = [false; 64];
-    let mut i = 0;
-    while i < 64 {
-        leads[i] = either(s.arrows, t.arrows, i);
-        marks[i] = either(s.marks, t.marks, i);
-        i += 1;
-    }
     Profile {
-        arrows: pack(leads, 64),
-        marks: pack(marks, 64),
+        arrows: s.arrows | t.arrows,
+        marks: s.marks | t.marks,
     }
 }
 

@@ -4,8 +4,9 @@ use native.Mathlib.Omega.{arith}
 use native.Mathlib.Nat.{add-comm, mul-suc, mul-le-mul-left, pow-succ', pow-le-pow-right, div-one, div-div-eq-div-mul, mul-add-div}
 use native.Mathlib.Nat.{div-eq-of-lt, div-lt-iff-lt-mul, mul-add-mod-self-left, mod-eq-of-lt, mod-lt, div-add-mod}
 use mathlib.Core.Path.{_≡_, refl, sym, ap, ap₂, _∙_, subst}
-use mathlib.Core.Bool.{Bool, true, false, cond}
+use mathlib.Core.Bool.{Bool, true, false, _||_, cond}
 use mathlib.Core.Logic.{⊎-elim}
+use lib.Bits.{bitOr, or-lt, or-mod, or-shr}
 use lib.Pow.{field, mod-mod-pow, shr-shr}
 use lib.Dec.{eqb, ltb}
 use borrow.Author.Tests.{ltb-true, ltb-false, eqb-true, eqb-false, eq-eqb, ne-eqb}
@@ -111,6 +112,21 @@ same-numbers x y h = same-bits (x + y) x y (wide x y) (rw (add-comm x y) (wide y
     wide : (x y : ℕ) → x < 2 ^ (x + y)
     wide x y = omega (arith, below-power x, pow-le-pow-right {n = 2} (omega arith) {i = x} {j = x + y} (omega arith))
 
+-- the "or" of two numbers has the bits that one of them has
+bit-or : (x y i : ℕ) → bit (bitOr x y) i ≡ (bit x i || bit y i)
+unfolding bit
+bit-or x y i = ap (λ z. eqb (z % 2) 1) (or-shr x y i) ∙ low (x / 2 ^ i) (y / 2 ^ i)
+  where
+    digits : (m n : ℕ) → m < 2 → n < 2 → eqb (bitOr m n) 1 ≡ (eqb m 1 || eqb n 1)
+    digits zero n hm hn = refl
+    digits (suc zero) zero hm hn = refl
+    digits (suc zero) (suc zero) hm hn = refl
+    digits (suc zero) (suc (suc n)) hm hn = absurd (omega arith)
+    digits (suc (suc m)) n hm hn = absurd (omega arith)
+
+    low : (m n : ℕ) → eqb (bitOr m n % 2) 1 ≡ (eqb (m % 2) 1 || eqb (n % 2) 1)
+    low m n = ap (λ z. eqb z 1) (or-mod m n 1) ∙ digits (m % 2) (n % 2) (omega arith) (omega arith)
+
 -- bits that agree below N give one number
 pub fromBits-same : (N : ℕ) (f g : ℕ → Bool) → ((i : ℕ) → i < N → f i ≡ g i) → fromBits N f ≡ fromBits N g
 unfolding fromBits
@@ -168,6 +184,14 @@ module _ (W : ℕ) where
   more-cells x y hx hy h =
       more-bits (W * W) x y hx hy
       (λ i l. subst (λ j. bit x j ≡ true → bit y j ≡ true) (div-add-mod i W) (h (i / W) (i % W) (row-below i l) (column-below i l)))
+
+  -- the "or" of two such numbers is the number packed from the bits that one of them has
+  pub or-grid : (x y : ℕ) → x < 2 ^ (W * W) → y < 2 ^ (W * W) → bitOr x y ≡ grid W (λ p q. cell W x p q || cell W y p q)
+  unfolding cell
+  or-grid x y hx hy =
+      let f : ℕ → ℕ → Bool = λ p q. cell W x p q || cell W y p q in
+      same-cells (bitOr x y) (grid W f) (or-lt (W * W) x y hx hy) (grid-below f)
+      (λ p q hp hq. bit-or x y (W * p + q) ∙ sym (cell-grid f p q hp hq))
 
 -- below N a number has the bits of its remainder by 2^N
 low-bits : (N x i : ℕ) → i < N → bit (x % 2 ^ N) i ≡ bit x i
