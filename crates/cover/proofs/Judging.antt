@@ -151,6 +151,7 @@ module _ (W : ℕ) (M : Machine ℕ) (w : Word) where
   unfolding setOf
   set-start e = rw e
 
-  pub profile-start : {t : Profile} → 0 < length w → t ≡ eventProfile W M (getD w 0 0) → profileFrom W M (some t) (drop 1 w) ≡ profileOf W M w
+  pub profile-start : {t : Profile} → 0 < length w → t ≡ eventProfile W M (getD w 0 0)
+      → profileFrom W M (some t) (drop 1 w) ≡ profileOf W M w
   unfolding profileOf profileFrom nextProfile
   profile-start l is = rw (is, here w {i = 0} l)
