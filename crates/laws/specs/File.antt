@@ -53,6 +53,14 @@ module _ (bytes : List ℕ) where
   unfoldable pub value : ℕ → ℕ
   value o = byte (o + 3)
 
+  -- a field of one byte at offset o, a number from 1 to limit: the form comes before the value
+  unfoldable pub numberChecks : ℕ → ℕ → ℕ → List Check
+  numberChecks o tag limit = fault 8 o (not (formed o tag 1)) ∷ fault 1 o (outside limit (value o)) ∷ []
+
+  -- a field of one byte at offset o, a mask of n states
+  unfoldable pub maskChecks : ℕ → ℕ → ℕ → List Check
+  maskChecks o tag n = fault 8 o (not (formed o tag 1)) ∷ fault 3 o (maskBeyond n (value o)) ∷ []
+
   -- the n masks of event a
   unfoldable pub masks : ℕ → ℕ → List ℕ
   masks n a = take n (drop (eventOffset n a + 4) bytes)
@@ -64,22 +72,20 @@ module _ (bytes : List ℕ) where
       ∷ fault 3 (eventOffset n a) (someOf (maskBeyond n) (masks n a))
       ∷ []
 
-  -- all fields in order, when the file says n and k and there is room for so many arrow numbers: the first fault decides
+  -- the end field at offset o, and no byte behind it
+  unfoldable pub endChecks : ℕ → List Check
+  endChecks o = fault 8 o (not (standAt o endField)) ∷ fault 8 (o + 3) (ltb (o + 3) (length bytes)) ∷ []
+
+  -- ALL FIELDS IN ORDER, when the file says n and k and there is room for so many arrow numbers: the first fault decides
   unfoldable pub fileChecks : ℕ → ℕ → ℕ → List Check
   fileChecks n k room =
-      fault 8 0 (not (formed 0 0x01 1))
-      ∷ fault 1 0 (outside (eight .states) n)
-      ∷ fault 8 4 (not (formed 4 0x02 1))
-      ∷ fault 1 4 (outside (eight .events) k)
-      ∷ fault 2 4 (ltb room k)
-      ∷ fault 8 8 (not (formed 8 0x03 1))
-      ∷ fault 3 8 (maskBeyond n (value 8))
-      ∷ fault 8 12 (not (formed 12 0x04 1))
-      ∷ fault 3 12 (maskBeyond n (value 12))
-      ∷ eachBelow k (eventChecks n)
-      ++ (fault 8 (eventOffset n k) (not (standAt (eventOffset n k) endField))
-      ∷ fault 8 (eventOffset n k + 3) (ltb (eventOffset n k + 3) (length bytes))
-      ∷ [])
+      numberChecks 0 0x01 (eight .states)
+      ++ numberChecks 4 0x02 (eight .events)
+      ++ (fault 2 4 (ltb room k) ∷ [])
+      ++ maskChecks 8 0x03 n
+      ++ maskChecks 12 0x04 n
+      ++ eachBelow k (eventChecks n)
+      ++ endChecks (eventOffset n k)
 
   -- the model in a file without a fault
   unfoldable pub modelRead : ℕ → ℕ → Model
