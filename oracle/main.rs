@@ -2,22 +2,23 @@
 
 mod bench;
 mod course;
+mod damage;
 mod editor;
+mod file;
 mod machine;
 mod model;
 mod opposite;
 mod paths;
 mod profile;
+mod program;
 mod random;
+mod readings;
 mod selftest;
 mod straight;
 mod tables;
 mod vectors;
 
-use course::letters;
-use model::{Model, Verdict};
 use std::path::Path;
-use tables::Tables;
 
 fn main() {
     let arguments: Vec<String> = std::env::args_os()
@@ -27,38 +28,18 @@ fn main() {
     let words: Vec<&str> = arguments.iter().map(String::as_str).collect();
     std::process::exit(match words[..] {
         ["self-test"] => selftest::run(),
-        ["verdict-c"] => print_verdict(&model::named("C")),
         ["editor"] => editor::print(),
         ["bench", ref program @ ..] if !program.is_empty() => bench::run(program),
         ["vectors", folder] => vectors::write(Path::new(folder)),
+        ["readings", folder] => readings::write(Path::new(folder)),
+        ["program", ref program @ ..] if !program.is_empty() => program::run(program),
         _ => usage(),
     });
 }
 
 fn usage() -> i32 {
-    eprintln!("usage: oracle self-test | verdict-c | editor | vectors FOLDER | bench PROGRAM...");
+    eprintln!(
+        "usage: oracle self-test | editor | vectors FOLDER | readings FOLDER | bench PROGRAM... | program PROGRAM..."
+    );
     2
-}
-
-fn print_verdict(model: &Model) -> i32 {
-    println!("{}", verdict_lines(model).join("\n"));
-    0
-}
-
-fn verdict_lines(model: &Model) -> Vec<String> {
-    let tables = Tables::close(model, None, None);
-    let mut lines = vec![
-        format!("sets {}", tables.sets.entries.len()),
-        format!("profiles {}", tables.profiles.entries.len()),
-    ];
-    match tables.verdict() {
-        None => lines = vec![format!("refused {}", tables.refusal())],
-        Some(Verdict::Covered) => lines.push("covered".to_string()),
-        Some(Verdict::Uncovered((u, v))) => {
-            lines.push("uncovered".to_string());
-            lines.push(format!("u{}", letters(&u)));
-            lines.push(format!("v{}", letters(&v)));
-        }
-    }
-    lines
 }

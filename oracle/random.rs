@@ -69,6 +69,10 @@ impl Random {
     /// Mostly with a start state and arrows everywhere, or the empty set would decide too often.
     pub fn model_up_to(&mut self, most_states: usize, most_events: usize) -> Model {
         let (n, k) = (self.one_to(most_states), self.one_to(most_events));
+        self.model_of(n, k)
+    }
+
+    pub fn model_of(&mut self, n: usize, k: usize) -> Model {
         let (start_density, home_density) = (self.below(8), self.below(9));
         let (arrow_density, total) = (self.below(9), self.below(4) > 0);
         let has_start = self.below(16) > 0;

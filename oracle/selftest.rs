@@ -1,10 +1,13 @@
 //! The self-test: each property says what it tried, or what failed and on which model and course.
 
 use crate::course::{accepts, show, Course};
+use crate::damage::File;
+use crate::file::{bytes_of, read, Fault};
 use crate::model::{bit, hand_worked, named, show_arrows, Model, Verdict};
 use crate::opposite::{counted, Opposite, Size};
 use crate::paths;
 use crate::profile::Profile;
+use crate::program::printed;
 use crate::random::Random;
 use crate::straight::Lent;
 use crate::tables::{Entry, Table, Tables};
@@ -16,12 +19,13 @@ use std::panic::{catch_unwind, AssertUnwindSafe};
 type Outcome = Result<String, String>;
 type Property = fn() -> Outcome;
 
-const PROPERTIES: [(&str, Property); 11] = [
+const PROPERTIES: [(&str, Property); 12] = [
     ("known courses", known_courses),
     ("search against meaning", search_against_meaning),
     ("hand-worked models", hand_worked_models),
     ("hand-worked opposites", hand_worked_opposites),
     ("edges", edges),
+    ("model files", model_files),
     ("returned courses are rejected", returned_courses),
     ("covered models accept", covered_models),
     ("model and opposite never agree", never_agree),
@@ -152,8 +156,8 @@ fn hand_worked_models() -> Outcome {
         expect(case.name, (sets, profiles), (case.sets, case.profiles))?;
         expect(case.name, tables.verdict(), Some(case.verdict))?;
     }
-    let lines = ["sets 2", "profiles 3", "uncovered", "u", "v 1"].map(String::from);
-    expect_list("C's lines", &crate::verdict_lines(&named("C")), &lines)?;
+    let lines = "sets 2\nprofiles 3\nuncovered\nu\nv 1\n".to_string();
+    expect("C's lines", printed(&bytes_of(&named("C"))), lines)?;
     Ok("A to H with counts and result, and C's five lines".to_string())
 }
 
@@ -201,6 +205,83 @@ fn edges() -> Outcome {
         "{} models with their refusal, {} rooms",
         cases.len(),
         rooms
+    ))
+}
+
+/// C's file as document 01 lists it, damaged in ways whose fault is worked by hand, and random models read back.
+fn model_files() -> Outcome {
+    #[rustfmt::skip]
+    let c = vec![
+        0x01, 0x01, 0x00, 0x02, 0x02, 0x01, 0x00, 0x02, 0x03, 0x01, 0x00, 0x01, 0x04, 0x01, 0x00, 0x02,
+        0x05, 0x03, 0x00, 0x00, 0x02, 0x02, 0x05, 0x03, 0x00, 0x01, 0x01, 0x01, 0x7F, 0x00, 0x00,
+    ];
+    expect_list("C's file", &bytes_of(&named("C")), &c)?;
+    #[rustfmt::skip]
+    let changes: [(usize, u8, u8, usize); 21] = [
+        (0, 0x11, 8, 0), (1, 0, 8, 0), (2, 1, 8, 0), (3, 0, 1, 0), (3, 9, 1, 0), (7, 0, 1, 4), (7, 17, 1, 4),
+        (7, 3, 8, 28), (8, 4, 8, 8), (11, 4, 3, 8), (15, 0x80, 3, 12), (16, 4, 8, 16), (17, 4, 8, 16),
+        (18, 1, 8, 16), (19, 1, 8, 16), (21, 4, 3, 16), (25, 0, 8, 22), (27, 0xFF, 3, 22), (28, 0x7E, 8, 28),
+        (29, 1, 8, 28), (30, 1, 8, 28),
+    ];
+    for (at, value, number, offset) in changes {
+        let mut file = c.clone();
+        file[at] = value;
+        let fault = Err(Fault { number, offset });
+        let what = format!("C's file with {} at {}", value, at);
+        expect(&what, read(&file, 16).map(|model| bytes_of(&model)), fault)?;
+    }
+    let fields = [0, 4, 8, 12, 16, 22, 28, 31];
+    for length in 0..c.len() {
+        let offset = *fields.iter().rev().find(|&&at| at <= length).expect("0");
+        let fault = Err(Fault { number: 8, offset });
+        let what = format!("C's file cut at {}", length);
+        expect(
+            &what,
+            read(&c[..length], 16).map(|model| bytes_of(&model)),
+            fault,
+        )?;
+    }
+    let more = [&c[..], &[0]].concat();
+    let with = |changes: &[(usize, u8)]| {
+        let mut file = c.clone();
+        changes.iter().for_each(|&(at, value)| file[at] = value);
+        file
+    };
+    // One byte too many; two faults, of which the first decides; and too little room for k, before and after other faults.
+    let others: [(File, usize, u8, usize); 10] = [
+        (more, 16, 8, 31),
+        (with(&[(3, 9), (0, 2)]), 16, 8, 0),
+        (with(&[(3, 9), (7, 17)]), 16, 1, 0),
+        (with(&[(11, 4), (8, 4)]), 16, 8, 8),
+        (with(&[(20, 4), (19, 1)]), 16, 8, 16),
+        (with(&[(20, 4), (26, 4)]), 16, 3, 16),
+        (with(&[(7, 17)]), 0, 1, 4),
+        (c.clone(), 0, 2, 4),
+        (c.clone(), 1, 2, 4),
+        (c[..8].to_vec(), 1, 2, 4),
+    ];
+    for (file, room, number, offset) in &others {
+        let fault = Fault {
+            number: *number,
+            offset: *offset,
+        };
+        let what = format!("{:02X?} with room {}", file, room);
+        expect(
+            &what,
+            read(file, *room).map(|model| bytes_of(&model)),
+            Err(fault),
+        )?;
+    }
+    let mut random = Random::new(1_200);
+    for _ in 0..1_000 {
+        let model = random.model_up_to(8, 16);
+        let back = read(&bytes_of(&model), model.k).map(|back| back.to_string());
+        expect("a model read back", back, Ok(model.to_string()))?;
+    }
+    Ok(format!(
+        "{} changes, {} cuts, 1000 models read back",
+        changes.len() + others.len(),
+        c.len()
     ))
 }
 

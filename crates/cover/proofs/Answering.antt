@@ -12,13 +12,13 @@ use Rattle.laws.specs.Answers.{SetSlices, ProfileSlices, setRoom, profileRoom, 
 use Rattle.laws.specs.Answers.{closingAnswer, closingIn}
 use Rattle.laws.proofs.Theorems.{sets-close, profiles-close}
 use Rattle.laws.proofs.Answered.{Whole, closing-refused, closing-listed, closing-whole}
-use Rattle.cover.specs.Values.{asked}
+use Rattle.model.specs.Asked.{asked}
 use Rattle.cover.specs.Memory.{Fills}
 use Rattle.cover.specs.Closing.{Closing, due}
 use Rattle.cover.proofs.SetTable.{setLayout}
 use Rattle.cover.proofs.ProfileTable.{profileLayout}
 use Rattle.cover.specs.declared.Closed.{Closed}
-use Rattle.cover.specs.declared.model.Model.{Model}
+use Rattle.model.specs.declared.Model.{Model}
 use Rattle.cover.specs.declared.table.Filled.{Filled}
 
 module _ (m : Model) (arrows : List ℕ) (S : SetSlices) (T : ProfileSlices) where

@@ -14,32 +14,11 @@ use borrow.Author.Tests.{ltb-true, eqb-false, ne-eqb, lt-ltb, le-ltb}
 use Rattle.laws.specs.Bits.{everyOf}
 use Rattle.laws.specs.Words.{Word, lettersBelow, empty}
 use Rattle.laws.specs.Model.{Machine, Kind, Model, Course}
-use Rattle.laws.specs.Refusals.{Check, firstOf, fault, refuse, modelChecks, courseChecks, Unrefused}
+use Rattle.laws.specs.Refusals.{firstOf, fault, refuse, modelChecks, wordChecks, courseChecks, Unrefused}
 use Rattle.laws.specs.Profiles.{Profile, join, eventProfile, startSet, after, setFrom, setOf, nextProfile, profileFrom, profileOf}
 use Rattle.laws.proofs.Booleans.{and-left, and-right}
+use Rattle.laws.proofs.Checks.{first-decides, second-decides}
 use Rattle.laws.proofs.Unrefused.{unrefused}
-
--- of two lists of checks the first decides, if it comes to a number
-first-decides : (xs ys : List Check) → (firstOf xs .number ≡ 0 → ⊥) → firstOf (xs ++ ys) ≡ firstOf xs
-unfolding firstOf
-first-decides [] ys h = absurd (h refl)
-first-decides (x ∷ xs) ys h = go (x .applies) refl (first-decides xs ys)
-  where
-    go : (b : Bool) → x .applies ≡ b → ((firstOf xs .number ≡ 0 → ⊥) → firstOf (xs ++ ys) ≡ firstOf xs)
-        → firstOf (x ∷ xs ++ ys) ≡ firstOf (x ∷ xs)
-    go true e more = rw (e, firstOf)
-    go false e more = rw (e, firstOf) (more (λ z. h (rw (e, firstOf) z)))
-
--- and else the second, where the first has no check with number 0
-second-decides : (xs ys : List Check) → everyOf (λ c. ltb 0 (c .number)) xs ≡ true → firstOf xs .number ≡ 0
-    → firstOf (xs ++ ys) ≡ firstOf ys
-unfolding firstOf everyOf
-second-decides [] ys h z = refl
-second-decides (x ∷ xs) ys h z = go (x .applies) refl (second-decides xs ys (and-right (ltb 0 (x .number)) _ h))
-  where
-    go : (b : Bool) → x .applies ≡ b → (firstOf xs .number ≡ 0 → firstOf (xs ++ ys) ≡ firstOf ys) → firstOf (x ∷ xs ++ ys) ≡ firstOf ys
-    go true e more = absurd (omega (arith, ltb-true 0 (x .number) (and-left (ltb 0 (x .number)) _ h), rw (e, firstOf) at z))
-    go false e more = rw (e, firstOf) (more (rw (e, firstOf) at z))
 
 -- a word is empty exactly if its length is 0
 pub empty-length : (w : Word) → empty w ≡ eqb (length w) 0
@@ -52,37 +31,34 @@ some-letter w e = omega (arith, eqb-false (length w) 0 (sym (empty-length w) ∙
 
 -- WHICH REFUSAL OF A COURSE IS THE FIRST: the model's, then 10, then 9
 module _ (K : Kind) (m : Model) (u v : Word) where
-  abbrev own : List Check
-  own = refuse 10 (empty v) ∷ refuse 9 (not (lettersBelow (m .k) u && lettersBelow (m .k) v)) ∷ []
-
   abbrev First : ℕ → Type 0
   First number = number ≡ firstOf (courseChecks K m u v) .number
 
   module _ {number : ℕ} (is : number ≡ firstOf (modelChecks K m) .number) where
     pub by-model : (number ≡ 0 → ⊥) → First number
     unfolding courseChecks
-    by-model n = is ∙ sym (ap (λ f. f .number) (first-decides (modelChecks K m) own (λ z. n (is ∙ z))))
+    by-model n = is ∙ sym (ap (λ f. f .number) (first-decides (modelChecks K m) (wordChecks (m .k) u v) (λ z. n (is ∙ z))))
 
     module _ (passes : number ≡ 0) where
-      by-own : firstOf (courseChecks K m u v) ≡ firstOf own
+      by-own : firstOf (courseChecks K m u v) ≡ firstOf (wordChecks (m .k) u v)
       unfolding courseChecks modelChecks refuse fault everyOf
-      by-own = second-decides (modelChecks K m) own refl (sym is ∙ passes)
+      by-own = second-decides (modelChecks K m) (wordChecks (m .k) u v) refl (sym is ∙ passes)
 
       pub by-empty : empty v ≡ true → First 10
-      unfolding firstOf refuse fault
+      unfolding firstOf refuse fault wordChecks
       by-empty e = rw (by-own, e)
 
       module _ (there : empty v ≡ false) where
         pub by-beginning : lettersBelow (m .k) u ≡ false → First 9
-        unfolding firstOf refuse fault
+        unfolding firstOf refuse fault wordChecks
         by-beginning e = rw (by-own, there, e)
 
         pub by-round : lettersBelow (m .k) u ≡ true → lettersBelow (m .k) v ≡ false → First 9
-        unfolding firstOf refuse fault
+        unfolding firstOf refuse fault wordChecks
         by-round e f = rw (by-own, there, e, f)
 
         pub by-none : lettersBelow (m .k) u ≡ true → lettersBelow (m .k) v ≡ true → First 0
-        unfolding firstOf refuse fault
+        unfolding firstOf refuse fault wordChecks
         by-none e f = rw (by-own, there, e, f)
 
   -- with number 0 the model and the course are as asked

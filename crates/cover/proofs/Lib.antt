@@ -1,8 +1,5 @@
--- loops: a search, and flags that are filled
-pub mod Searching
+-- a loop that fills flags
 pub mod Flags
--- what is refused of a model
-pub mod Beyond
 -- one course: its words read, and what is refused of it
 pub mod Judging
 -- what an event is and does

@@ -14,20 +14,20 @@ use Rattle.laws.specs.Answers.{closingOf, words, verdictFrom, verdictAnswer, ve
 use Rattle.laws.proofs.Booleans.{never}
 use Rattle.laws.proofs.Answered.{closing-within, verdict-within, one-judged}
 use Rattle.laws.proofs.Read.{first-numbers, course-numbers}
-use Rattle.cover.specs.Values.{asked}
+use Rattle.laws.proofs.Over.{over-length, over-past}
+use Rattle.model.specs.Asked.{asked}
 use Rattle.cover.specs.Memory.{Kept}
 use Rattle.cover.specs.Closing.{Closing, due}
 use Rattle.cover.specs.Verdicts.{told, tells, GivesVerdict, due as verdict-due}
 use Rattle.cover.specs.Editor.{inNumbers, Exports}
 use Rattle.cover.specs.Courses.{number, accepted, isSaid, JudgesCourse}
 use Rattle.cover.specs.declared.Closed.{Closed}
-use Rattle.cover.specs.declared.model.Model.{Model}
+use Rattle.model.specs.declared.Model.{Model}
 use Rattle.cover.specs.declared.answer.Answer.{Answer}
 use Rattle.cover.specs.declared.answer.Answer.the-variants.{Covered, Uncovered, Refused}
 use Rattle.cover.specs.declared.editor.CoverVerdict.{CoverVerdict}
 use Rattle.cover.specs.declared.course.Judgement.{Judgement}
 use Rattle.cover.specs.declared.course.Judgement.the-variants.{Accepted, Rejected, Refused as Unjudged}
-use Rattle.cover.proofs.Slices.{over-length, over-past}
 use Rattle.cover.proofs.SetTable as of-sets
 use Rattle.cover.proofs.ProfileTable as of-profiles
 
@@ -166,12 +166,15 @@ module _ {m : Model} {arrows : List ℕ} {S S′ : SetSlices} {T T′ : ProfileS
     unfolding words tells
     words-long = simp length-append (sym (ap (λ t. t .u + t .v) (j .answered)))
 
+    -- u and v are not more than the word memory has room for
+    pub words-within : told answer .u + told answer .v ≤ length memory
+    unfolding verdictIn verdictAnswer closingIn
+    words-within = let within = verdict-within 8 (due m arrows S T) (length memory) in omega (arith, words-long)
+
     -- and past them the word memory has not changed
     pub words-kept : Kept (told answer .u + told answer .v) memory memory′
-    unfolding verdictIn verdictAnswer closingIn wordMemory
-    words-kept =
-        let within = verdict-within 8 (due m arrows S T) (length memory) in
-        rw (j .word-memory) (written _ memory _ words-long (omega (arith, words-long)))
+    unfolding wordMemory
+    words-kept = rw (j .word-memory) (written _ memory _ words-long words-within)
 
   -- THE EDITOR'S CALL has one result too
   pub one-export : {result : CoverVerdict} → Exports m arrows S S′ T T′ memory memory′ result

@@ -1,58 +1,20 @@
--- What stands in a slice after numbers were written to its beginning, and the entries that are read back.
-use Prim.Native.Nat.{ℕ, zero, suc, _+_, _-_, _≤_, _<_}
+-- The entries of a table in its slices: what a column holds after they were written, and the entries that are read back.
+use Prim.Native.Nat.{ℕ, zero, suc, _+_, _≤_, _<_}
 use native.Mathlib.Nat.{add-zero, zero-add}
 use native.Mathlib.Omega.{arith}
 use mathlib.Core.Path.{_≡_, refl, sym, ap, _∙_}
 use mathlib.Core.Option.{some}
 use mathlib.Core.List.{List, [], _∷_, _++_, map}
-use lib.ListN.{length, getD, take, drop, set, getElem?, length-append, length-drop, length-map, take-append-drop, List·getD-append}
-use lib.Seq.{drop-cons, drop-drop, drop-append-add, set-append-seam, append-snoc, getD-append-add, getD-drop, getD-take}
-use lib.Seq.{length-take-le, ext-getD}
+use lib.ListN.{length, getD, take, set, getElem?, length-map}
+use lib.Seq.{getD-take}
 use Rattle.laws.specs.Bits.{counted}
 use Rattle.laws.specs.Tables.{Entry}
 use Rattle.laws.specs.Answers.{over}
 use Rattle.laws.proofs.Booleans.{inside, not-nothing}
-use Rattle.laws.proofs.Places.{same-lists, element, place-below, length-one-more}
+use Rattle.laws.proofs.Places.{same-lists, element, place-below}
 use Rattle.laws.proofs.Members.{length-counted}
+use Rattle.laws.proofs.Over.{over-again, over-length, over-at, over-same, over-set}
 use Rattle.cover.specs.Memory.{entriesIn}
-
--- writing again, and no less, is writing at once
-pub over-again : (xs ys old : List ℕ) → length xs ≤ length ys → over ys (over xs old) ≡ over ys old
-unfolding over
-over-again xs ys old h =
-    let d : ℕ = length ys - length xs in
-    let e : length ys ≡ length xs + d = omega arith in
-    ap (λ (r : List ℕ). ys ++ r) (rw (e, drop-append-add, drop-drop))
-
--- the slice keeps its length
-pub over-length : (xs old : List ℕ) → length xs ≤ length old → length (over xs old) ≡ length old
-unfolding over
-over-length xs old h = simp (length-append, length-drop) (omega arith)
-
--- what was written stands there
-pub over-at : (xs old : List ℕ) (i : ℕ) → i < length xs → getD (over xs old) i 0 ≡ getD xs i 0
-unfolding over
-over-at xs old i h = List·getD-append xs (drop (length xs) old) 0 i h
-
--- and past it what stood there before
-pub over-past : (xs old : List ℕ) (i : ℕ) → length xs ≤ i → getD (over xs old) i 0 ≡ getD old i 0
-unfolding over
-over-past xs old i h =
-    let e : i ≡ length xs + (i - length xs) = omega arith in
-    rw (e, getD-append-add, getD-drop)
-
--- writing what stands there changes nothing
-pub over-same : (xs old : List ℕ) → length xs ≤ length old → ((i : ℕ) → i < length xs → getD xs i 0 ≡ getD old i 0) → over xs old ≡ old
-unfolding over
-over-same xs old h same =
-    let n : ℕ = length xs in
-    let e = ext-getD 0 xs (take n old) (sym (length-take-le n old h)) (λ i l. same i l ∙ sym (getD-take n old i 0 l)) in
-    ap (λ (r : List ℕ). r ++ drop n old) e ∙ take-append-drop n old
-
--- one number more, at the place behind those written
-pub over-set : (xs old : List ℕ) (x : ℕ) → length xs < length old → set (over xs old) (length xs) x ≡ over (xs ++ (x ∷ [])) old
-unfolding over
-over-set xs old x h = rw (length-one-more, drop-cons old (length xs) 0, set-append-seam, append-snoc)
 
 -- the numbers from i on, by their places
 counted-at : (i d j : ℕ) → j < d → getElem? (counted i d) j ≡ some (i + j)
@@ -63,7 +25,7 @@ counted-at i (suc d) (suc j) h = counted-at (suc i) d j (omega arith) ∙ ap som
 
 module _ {A B : Type 0} (f : A → B) where
   -- what f makes of a list stands where it was made from
-  pub map-at : (xs : List A) (i : ℕ) {x : A} → getElem? xs i ≡ some x → getElem? (map f xs) i ≡ some (f x)
+  map-at : (xs : List A) (i : ℕ) {x : A} → getElem? xs i ≡ some x → getElem? (map f xs) i ≡ some (f x)
   map-at [] i h = absurd (not-nothing h)
   map-at (y ∷ xs) zero h = ap (λ y. some (f y)) (inside h)
   map-at (y ∷ xs) (suc i) h = map-at xs i h

@@ -12,11 +12,11 @@ use Rattle.laws.specs.Profiles as paper
 use Rattle.laws.specs.Answers.{SetSlices, ProfileSlices, setRoom, profileRoom, over, VerdictAnswer, uAndV, words, verdictFrom}
 use Rattle.laws.specs.Answers.{verdictAnswer, closingIn, verdictIn, wordMemory}
 use Rattle.laws.proofs.Answered.{verdict-refused, verdict-answers}
-use Rattle.cover.specs.Values.{asked}
+use Rattle.model.specs.Asked.{asked}
 use Rattle.cover.specs.Memory.{setMemory, profileMemory, setsIn, profilesIn, SetsLent, ProfilesLent}
 use Rattle.cover.specs.Closing as closing
 use Rattle.cover.specs.Verdicts.{told, isCovered, tells, given, due, GivesVerdict, Stored, wholly, Concludes}
-use Rattle.cover.specs.declared.model.Model.{Model}
+use Rattle.model.specs.declared.Model.{Model}
 use Rattle.cover.specs.declared.Closed.{Closed}
 use Rattle.cover.specs.declared.answer.Answer.{Answer}
 use Rattle.cover.specs.declared.answer.Answer.the-variants.{Covered, Uncovered, Refused}
@@ -93,10 +93,10 @@ module _ {m : Model} {arrows : List ℕ} {S S′ : SetSlices} {T T′ : ProfileS
   Q = firstProfiles (closed .profiles) T′
 
   -- an answer that tells what document 01's tells gives a verdict that is right
-  judged : {memory memory′ : List ℕ} {answer : Answer} → told answer ≡ tells (due m arrows S T memory)
+  gives : {memory memory′ : List ℕ} {answer : Answer} → told answer ≡ tells (due m arrows S T memory)
       → memory′ ≡ wordMemory (due m arrows S T memory) memory → GivesVerdict m arrows S S′ T T′ memory memory′ answer
   unfolding verdictIn tells
-  judged {memory} {memory′} {answer} answered written =
+  gives {memory} {memory′} {answer} answered written =
       record { closed = closed; closing = c; answered = answered; word-memory = written; right = right }
     where
       right : told answer .number ≡ 0
@@ -120,7 +120,7 @@ module _ {m : Model} {arrows : List ℕ} {S S′ : SetSlices} {T T′ : ProfileS
       go zero e = absurd (refused e)
       go (suc n) e =
           let d = verdict-refused 8 (closing.due m arrows S T) (length memory) n (sym (c .number) ∙ e) in
-          judged (rw (d, e, c .sets, c .profiles)) (rw d)
+          gives (rw (d, e, c .sets, c .profiles)) (rw d)
 
   module _ (zero-is : closed .number ≡ 0) where
     -- the first places hold a table each and nothing else
@@ -165,10 +165,10 @@ module _ {m : Model} {arrows : List ℕ} {S S′ : SetSlices} {T T′ : ProfileS
             (of-profiles.profileLayout .back _ T)
 
     -- WHAT FOLLOWS from them is what is due
-    pub judges : {memory memory′ : List ℕ} {answer : Answer} → Concludes P Q memory memory′ answer
+    pub gives-concluded : {memory memory′ : List ℕ} {answer : Answer} → Concludes P Q memory memory′ answer
         → GivesVerdict m arrows S S′ T T′ memory memory′ answer
     unfolding verdictIn verdictAnswer closingIn
-    judges {memory} d =
+    gives-concluded {memory} d =
         let same : verdictFrom 8 (wholly P Q) (length memory) ≡ due m arrows S T memory =
         ap (λ x. verdictFrom 8 x (length memory)) wholly-due in
-        judged (d .answered ∙ ap tells same) (d .word-memory ∙ ap (λ x. wordMemory x memory) same)
+        gives (d .answered ∙ ap tells same) (d .word-memory ∙ ap (λ x. wordMemory x memory) same)

@@ -8,9 +8,9 @@ use Rattle.laws.specs.Tables.{Entry}
 use Rattle.laws.specs.Profiles as paper
 use Rattle.laws.specs.Answers.{SetSlices, ProfileSlices, setRoom, profileRoom, setSlices, profileSlices}
 use Rattle.laws.specs.Answers.{ClosingAnswer, closingIn, closingOf}
-use Rattle.cover.specs.Values.{asked}
+use Rattle.model.specs.Asked.{asked}
 use Rattle.cover.specs.Memory.{setsIn, profilesIn}
-use Rattle.cover.specs.declared.model.Model.{Model}
+use Rattle.model.specs.declared.Model.{Model}
 use Rattle.cover.specs.declared.Closed.{Closed}
 
 module _ (m : Model) (arrows : List ℕ) where

@@ -8,8 +8,8 @@ use Rattle.laws.specs.Words.{Word, lettersBelow}
 use Rattle.laws.specs.Model.{eight}
 use Rattle.laws.specs.Refusals.{Unrefused}
 use Rattle.laws.specs.Answers.{CourseAnswer}
-use Rattle.cover.specs.Values.{asked}
-use Rattle.cover.specs.declared.model.Model.{Model}
+use Rattle.model.specs.Asked.{asked}
+use Rattle.model.specs.declared.Model.{Model}
 use Rattle.cover.specs.declared.course.Judgement.{Judgement}
 use Rattle.cover.specs.declared.course.Judgement.the-variants.{Accepted, Rejected, Refused}
 

@@ -6,7 +6,7 @@ use mathlib.Core.Option.{Option, none, some}
 use mathlib.Core.List.{List}
 use Rattle.laws.specs.Answers.{SetSlices, ProfileSlices}
 use Rattle.cover.specs.Verdicts.{Told, told, GivesVerdict}
-use Rattle.cover.specs.declared.model.Model.{Model}
+use Rattle.model.specs.declared.Model.{Model}
 use Rattle.cover.specs.declared.answer.Answer.{Answer}
 use Rattle.cover.specs.declared.editor.CoverVerdict.{CoverVerdict}
 

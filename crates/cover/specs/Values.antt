@@ -1,20 +1,14 @@
--- How the code's values stand for those of document 01: a model beside its slice of arrows, a profile, and the profile of what was read.
+-- How the code's values stand for those of document 01: a profile, and the profile of what was read.
 use Prim.Native.Nat.{ℕ, _<_, _≤_}
 use mathlib.Core.Path.{_≡_}
 use mathlib.Core.Bool.{Bool, true, false, _&&_}
 use mathlib.Core.List.{List}
 use mathlib.Core.Option.{Option, none, some}
 use Rattle.laws.specs.Bits.{bit, cell, grid}
-use Rattle.laws.specs.Model as laws
 use Rattle.laws.specs.Profiles as paper
-use Rattle.cover.specs.declared.model.Model.{Model}
 use Rattle.cover.specs.declared.profile.Profile.{Profile}
 use Rattle.cover.specs.declared.profile.Before.{Before}
 use Rattle.cover.specs.declared.profile.Before.the-variants.{Nothing, Word}
-
--- the model that is asked about: its numbers and masks, and the slice of arrows beside it
-abbrev pub asked : Model → List ℕ → laws.Model
-asked m arrows = record { n = m .n; k = m .k; start = m .start; home = m .home; arrows = arrows }
 
 -- a profile's two numbers
 abbrev pub profile : Profile → paper.Profile

@@ -8,10 +8,10 @@ use lib.ListN.{length, take, drop}
 use Rattle.laws.specs.Model.{eight, machine}
 use Rattle.laws.specs.Profiles as paper
 use Rattle.laws.specs.Answers.{SetSlices, ProfileSlices, ClosingAnswer, VerdictAnswer, uAndV, verdictFrom, verdictIn, wordMemory}
-use Rattle.cover.specs.Values.{asked}
+use Rattle.model.specs.Asked.{asked}
 use Rattle.cover.specs.Memory.{setsIn, profilesIn, Linked}
 use Rattle.cover.specs.Closing.{Closing}
-use Rattle.cover.specs.declared.model.Model.{Model}
+use Rattle.model.specs.declared.Model.{Model}
 use Rattle.cover.specs.declared.Closed.{Closed}
 use Rattle.cover.specs.declared.answer.Answer.{Answer}
 use Rattle.cover.specs.declared.answer.Answer.the-variants.{Covered, Uncovered, Refused}

@@ -8,18 +8,19 @@ ghost use Rattle.laws.specs.Model.{eight, machine, Accepted};
 ghost use Rattle.laws.specs.Refusals.{firstOf, courseChecks};
 ghost use Rattle.laws.specs.Profiles.{setOf, profileOf};
 ghost use Rattle.laws.specs.Repeats.{MarksLed, Repeats};
-ghost use Rattle.cover.specs.Values.{asked, profile};
+ghost use Rattle.model.specs.Asked.{asked};
+ghost use Rattle.cover.specs.Values.{profile};
 ghost use Rattle.cover.specs.Courses.{Readable};
 use crate::events::after;
 use crate::events::profile_of;
-use crate::model::Model;
 use crate::pairs::marks_round;
 use crate::profile::Profile;
 use crate::profile::image;
 use crate::profile::is_same;
 use crate::profile::join;
 use crate::profile::union;
-use crate::refusal;
+use model::Model;
+use model::refusal;
 
 // The course is accepted or not, or the number of the refusal.
 pub enum Judgement {
@@ -46,7 +47,7 @@ fn letters_below(k: usize, w: &[u8]) -> bool
 pub fn refusal_of(m: Model, arrows: &[u64], u: &[u8], v: &[u8]) -> u8
     ensures { λ r. ⌜ r ≡ firstOf (courseChecks eight (asked m (now (arrows .entry))) (now (u .entry)) (now (v .entry))) .number ⌝ }
 {
-    let number = refusal::refusal(m, arrows);
+    let number = refusal(m, arrows);
     if number != 0 {
         return number;
     }
@@ -90,9 +91,8 @@ fn profile_of_word(m: Model, arrows: &[u64], w: &[u8]) -> Profile
     t
 }
 
-// All repeats of a profile in one: joined with itself as often as that leads or marks anything more. Each turn adds
-// at least one of 128 bits, so it ends.
-// A mark where t does not lead would spread to ways that no repeat of t marks.
+// All repeats of a profile in one: joined with itself as often as that leads or marks anything more. Each turn adds at least one of 128 bits,
+// so it ends. A mark where t does not lead would spread to ways that no repeat of t marks.
 fn repeated(t: Profile) -> Profile
     requires { ⌜ MarksLed 8 (profile t) ⌝ }
     ensures { λ c. ⌜ Repeats 8 (profile t) (profile c) ⌝ }

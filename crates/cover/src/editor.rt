@@ -3,7 +3,7 @@ ghost use mathlib.Core.Path.{_≡_};
 ghost use Rattle.cover.specs.Memory.{setMemory, profileMemory};
 ghost use Rattle.cover.specs.Editor.{inNumbers, Exports};
 use crate::answer::Answer;
-use crate::model::Model;
+use model::Model;
 
 // The verdict as a number; include/cover.h has the same.
 const NO_VERDICT: u8 = 0;

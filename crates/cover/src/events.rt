@@ -4,11 +4,12 @@ ghost use mathlib.Core.Path.{_≡_};
 ghost use Rattle.laws.specs.Model.{eight, machine};
 ghost use Rattle.laws.specs.Refusals.{Unrefused};
 ghost use Rattle.laws.specs.Profiles.{eventProfile, after as led};
-ghost use Rattle.cover.specs.Values.{asked, profile};
-use crate::model::Model;
+ghost use Rattle.model.specs.Asked.{asked};
+ghost use Rattle.cover.specs.Values.{profile};
 use crate::profile::Profile;
 use crate::profile::image;
 use crate::profile::of_event;
+use model::Model;
 
 // The profile of event a.
 pub fn profile_of(m: Model, arrows: &[u64], a: usize) -> Profile

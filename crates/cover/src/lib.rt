@@ -5,18 +5,17 @@ mod bits;
 mod course;
 mod editor;
 mod events;
-mod model;
 mod pairs;
 mod profile;
 mod profiles;
-mod refusal;
 mod sets;
 mod table;
 mod words;
 
 pub use answer::Answer;
 pub use course::Judgement;
-pub use model::Model;
+use model::Model;
+use model::refusal;
 ghost use Rattle.cover.specs.Memory.{setMemory, profileMemory};
 ghost use Rattle.cover.specs.Closing.{Closing};
 ghost use Rattle.cover.specs.Verdicts.{GivesVerdict};
@@ -50,7 +49,7 @@ pub fn close(
         (now («profile_from» .exit)) (now («profile_event» .exit)))
         r ⌝ }
 {
-    let number = refusal::refusal(m, arrows);
+    let number = refusal(m, arrows);
     if number != 0 {
         return Closed {
             number,

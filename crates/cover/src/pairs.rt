@@ -8,11 +8,11 @@ ghost use Rattle.laws.specs.Profiles.{marked, marksRound, isRejecting};
 ghost use Rattle.cover.specs.Values.{profile};
 ghost use Rattle.cover.specs.Pairs.{First};
 use crate::bits::has;
-use crate::model::Model;
 use crate::profile::Profile;
 use crate::profile::image;
 use crate::profile::is_same;
 use crate::profile::join;
+use model::Model;
 
 // The first rejecting pair, by its numbers, where there is one.
 pub enum Pair {

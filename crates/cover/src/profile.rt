@@ -8,7 +8,7 @@ ghost use Rattle.laws.specs.Repeats.{union as united};
 ghost use Rattle.cover.specs.Values.{profile, eventValue, nextValue, plain};
 use crate::bits::has;
 use crate::bits::pack;
-use crate::model::Model;
+use model::Model;
 
 // Two numbers: bit 8·p+q says of one whether p leads to q, and of the other whether that is marked.
 pub struct Profile {

@@ -9,14 +9,15 @@ ghost use Rattle.laws.specs.Tables.{enter as entered, byEvents};
 ghost use Rattle.laws.specs.Profiles.{setValue, setTable};
 ghost use Rattle.laws.specs.Refusals.{Unrefused};
 ghost use Rattle.laws.specs.Answers.{setRoom, setSlices};
-ghost use Rattle.cover.specs.Values.{asked, FirstPlace};
+ghost use Rattle.model.specs.Asked.{asked};
+ghost use Rattle.cover.specs.Values.{FirstPlace};
 ghost use Rattle.cover.specs.Memory.{setMemory, setsIn, going, SetsLent, Fills};
 use crate::events::after;
-use crate::model::Model;
 use crate::table::Filled;
 use crate::table::NO_ENTRY;
 use crate::table::NO_EVENT;
 use crate::table::least;
+use model::Model;
 
 // The place of a set among the first count masks; count where it is not there.
 fn find(masks: &[u8], count: usize, set: u8) -> usize

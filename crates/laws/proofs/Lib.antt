@@ -9,8 +9,10 @@ pub mod Theorems
 pub mod Applied
 -- tests, lists, bits, words and numbers
 pub mod Booleans
+pub mod Searching
 pub mod Places
 pub mod Members
+pub mod Over
 pub mod Packing
 pub mod Order
 pub mod Pigeonhole
@@ -49,3 +51,10 @@ pub mod Counts
 pub mod Unrefused
 pub mod Answered
 pub mod Read
+-- 7. the file
+pub mod Parts
+pub mod Checks
+pub mod Faultless
+pub mod FileForm
+pub mod FileBytes
+pub mod FileBack

@@ -1,14 +1,15 @@
 -- Members of lists: where they stand, and those of the lists that `gather`, `eachBelow` and `keep` make.
-use Prim.Native.Nat.{ℕ, zero, suc, _<_}
+use Prim.Native.Nat.{ℕ, zero, suc, _+_, _<_}
 use native.Mathlib.Omega.{arith}
+use native.Mathlib.Nat.{add-zero, zero-add, suc-add, add-suc}
 use mathlib.Core.Path.{_≡_, refl, sym, ap, _∙_, subst}
 use mathlib.Core.Bool.{Bool, true, false, _||_, cond, false≢true}
 use mathlib.Core.Logic.{_⊎_, inl, inr}
 use mathlib.Core.Option.{Option, some}
-use mathlib.Core.List.{List, [], _∷_, List·Memᴰ as Member, List·Memᴰ·head as head, List·Memᴰ·tail as tail}
+use mathlib.Core.List.{List, [], _∷_, map, List·Memᴰ as Member, List·Memᴰ·head as head, List·Memᴰ·tail as tail}
 use mathlib.Core.List.{List·Memᴰ·not-nil as not-nil, List·Memᴰ·eq-of-singleton as eq-of-singleton}
 use mathlib.Core.List.{List·Memᴰ·append-cases as append-cases, Memᴰ·append-left as append-left, Memᴰ·append-right as append-right}
-use lib.ListN.{length, getElem?}
+use lib.ListN.{length, getD, getElem?}
 use Rattle.laws.specs.Bits.{counted, someOf, keep, gather, placeOf, eachBelow}
 use Rattle.laws.proofs.Booleans.{or-left, or-right, not-nothing, inside}
 use Rattle.laws.proofs.Places.{In, place-below, element}
@@ -104,6 +105,16 @@ pub length-counted : (i d : ℕ) → length (counted i d) ≡ d
 unfolding counted
 length-counted i zero = refl
 length-counted i (suc d) = ap suc (length-counted (suc i) d)
+
+-- and the place of a is a
+pub at-counted : {A : Type 0} (f : ℕ → A) (k a : ℕ) (d : A) → a < k → getD (map f (counted 0 k)) a d ≡ f a
+unfolding counted
+at-counted f k a d l = go 0 k a l ∙ rw zero-add
+  where
+    go : (i k a : ℕ) → a < k → getD (map f (counted i k)) a d ≡ f (i + a)
+    go i zero a l = absurd (omega arith)
+    go i (suc k) zero l = rw add-zero
+    go i (suc k) (suc a) l = go (suc i) k a (omega arith) ∙ rw (suc-add, add-suc)
 
 -- a number below k and its place in the list of them are one number
 pub by-place : {A : Type 0} (k : ℕ) (f : ℕ → List A) → eachBelow k f ≡ gather (λ a _. f a) 0 (counted 0 k)

@@ -1,16 +1,20 @@
 -- Numbers as bits, over any width: the number with given bits has them and no others, and a number is given by its bits.
+-- The number of a list of rows has these rows.
 use Prim.Native.Nat.{ℕ, zero, suc, _+_, _*_, _-_, _/_, _%_, _^_, _<_, _≤_}
 use native.Mathlib.Omega.{arith}
-use native.Mathlib.Nat.{add-comm, mul-suc, mul-le-mul-left, pow-succ', pow-le-pow-right, div-one, div-div-eq-div-mul, mul-add-div}
+use native.Mathlib.Nat.{add-zero, add-comm, mul-zero, mul-suc, zero-div, zero-mod, div-one, pow-succ', pow-le-pow-right}
+use native.Mathlib.Nat.{mul-le-mul-left, div-div-eq-div-mul, mul-add-div}
 use native.Mathlib.Nat.{div-eq-of-lt, div-lt-iff-lt-mul, mul-add-mod-self-left, mod-eq-of-lt, mod-lt, div-add-mod}
 use mathlib.Core.Path.{_≡_, refl, sym, ap, ap₂, _∙_, subst}
 use mathlib.Core.Bool.{Bool, true, false, _||_, cond}
 use mathlib.Core.Logic.{⊎-elim}
+use mathlib.Core.List.{List, [], _∷_}
+use lib.ListN.{getD}
 use lib.Bits.{bitOr, or-lt, or-mod, or-shr}
 use lib.Pow.{field, mod-mod-pow, shr-shr}
 use lib.Dec.{eqb, ltb}
 use borrow.Author.Tests.{ltb-true, ltb-false, eqb-true, eqb-false, eq-eqb, ne-eqb}
-use Rattle.laws.specs.Bits.{bit, fromBits, cell, grid, packedRow}
+use Rattle.laws.specs.Bits.{bit, fromBits, cell, grid, packedRow, fromRows}
 use Rattle.laws.proofs.Booleans.{same-test, never, either}
 
 -- bit 0 is the remainder by two
@@ -224,3 +228,28 @@ module _ (W x : ℕ) where
   pub bit-cell : (i : ℕ) → zero < W → bit x i ≡ true → (i % W < W) × (cell W x (i / W) (i % W) ≡ true)
   unfolding cell
   bit-cell i w b = (mod-lt i w, ap (bit x) (div-add-mod i W) ∙ b)
+
+module _ (W : ℕ) where
+  -- a row put before the others is row 0, and the others come one later
+  row-first : (r x : ℕ) → r < 2 ^ W → packedRow W (r + 2 ^ W * x) 0 ≡ r
+  unfolding packedRow
+  row-first r x h = rw (mul-zero W, div-one, add-comm r (2 ^ W * x)) (mul-add-mod-self-left (2 ^ W) x r ∙ mod-eq-of-lt h)
+
+  row-next : (r x p : ℕ) → r < 2 ^ W → packedRow W (r + 2 ^ W * x) (suc p) ≡ packedRow W x p
+  unfolding packedRow
+  row-next r x p h =
+      let high : (r + 2 ^ W * x) / 2 ^ W ≡ x =
+      rw (add-comm r (2 ^ W * x), mul-add-div {m = 2 ^ W} (positive W) x r, div-eq-of-lt h, add-zero) in
+      rw (mul-suc W p, add-comm (W * p) W, ← (shr-shr (r + 2 ^ W * x) W (W * p)), high)
+
+  -- row p of the number of a list of rows is the p-th of them, and 0 behind the last
+  pub row-of-rows : (rs : List ℕ) → ((i : ℕ) → getD rs i 0 < 2 ^ W) → (p : ℕ) → packedRow W (fromRows W rs) p ≡ getD rs p 0
+  unfolding fromRows packedRow
+  row-of-rows [] h p = rw (zero-div (2 ^ (W * p)), zero-mod)
+  row-of-rows (r ∷ rs) h zero = row-first r (fromRows W rs) (h 0)
+  row-of-rows (r ∷ rs) h (suc p) = row-next r (fromRows W rs) p (h 0) ∙ row-of-rows rs (λ i. h (suc i)) p
+
+  -- so its bit for p, q is bit q of the p-th
+  pub cell-of-rows : (rs : List ℕ) → ((i : ℕ) → getD rs i 0 < 2 ^ W) → (p q : ℕ) → q < W
+      → cell W (fromRows W rs) p q ≡ bit (getD rs p 0) q
+  cell-of-rows rs h p q l = sym (row-bit W (fromRows W rs) p q l) ∙ ap (λ r. bit r q) (row-of-rows rs h p)

@@ -2,16 +2,16 @@
 -- other, and so does every answer.
 use Prim.Native.Nat.{ℕ, _<_, _≤_}
 use mathlib.Core.Path.{_≡_, refl, sym, ap, _∙_, subst, fun-ext}
-use mathlib.Core.Bool.{Bool, true, false, not, _&&_}
-use mathlib.Core.List.{List, [], _∷_, _++_}
+use mathlib.Core.Bool.{Bool, true, false, _&&_}
+use mathlib.Core.List.{List, _++_}
 use lib.ListN.{length, take, getD}
 use lib.Seq.{getD-take}
 use lib.Dec.{ltb}
 use borrow.Author.Tests.{ltb-true, le-ltb}
 use Rattle.laws.specs.Bits.{cell}
-use Rattle.laws.specs.Words.{Word, lettersBelow, empty}
+use Rattle.laws.specs.Words.{Word}
 use Rattle.laws.specs.Model.{Kind, Model, isState, leads, machine, Accepted}
-use Rattle.laws.specs.Refusals.{Check, firstOf, refuse, modelChecks, courseChecks}
+use Rattle.laws.specs.Refusals.{firstOf, modelChecks, wordChecks, courseChecks}
 use Rattle.laws.specs.Tables.{Entry}
 use Rattle.laws.specs.Profiles.{Profile, HoldsSets, HoldsProfiles}
 use Rattle.laws.specs.Answers.{closingAnswer, closingOf, CourseAnswer}
@@ -24,7 +24,7 @@ withArrows m arrows = record { n = m .n; k = m .k; start = m .start; home = m .h
 
 module _ (m : Model) (arrows : List ℕ) (same : take (m .k) (m .arrows) ≡ take (m .k) arrows) where
   -- the numbers of the events are the same
-  event-same : (a : ℕ) → a < m .k → getD (m .arrows) a 0 ≡ getD arrows a 0
+  pub event-same : (a : ℕ) → a < m .k → getD (m .arrows) a 0 ≡ getD arrows a 0
   event-same a l = sym (getD-take (m .k) (m .arrows) a 0 l) ∙ ap (λ xs. getD xs a 0) same ∙ getD-take (m .k) arrows a 0 l
 
   -- so every arrow is
@@ -58,14 +58,11 @@ module _ (m : Model) (arrows : List ℕ) (same : take (m .k) (m .arrows) ≡ tak
     unfolding courseChecks
     course-numbers u v n b c =
         record {
-          number-is = c .number-is ∙ ap (λ checks. firstOf (checks ++ own) .number) checks-same;
+          number-is = c .number-is ∙ ap (λ checks. firstOf (checks ++ wordChecks (m .k) u v) .number) checks-same;
           yes-with-0 = c .yes-with-0;
           yes-only-if = λ h. subst (λ M. Accepted M u v) (machine-same (K .states)) (c .yes-only-if h);
           yes-if = λ z a. c .yes-if z (subst (λ M. Accepted M u v) (sym (machine-same (K .states))) a);
         }
-      where
-        own : List Check
-        own = refuse 10 (empty v) ∷ refuse 9 (not (lettersBelow (m .k) u && lettersBelow (m .k) v)) ∷ []
 
     -- what is listed for all sets and all profiles is the same
     listed-same : (a b : ℕ) (sets : List (Entry ℕ)) (profiles : List (Entry Profile))

@@ -1,5 +1,5 @@
--- THE THEOREMS, to be held beside demands 2 and 3. W is the number of states of the kind of model and k the number of events; nothing here
--- knows how many they are. No axiom is used, and each condition stands in its statement. Under a statement stands what proves it.
+-- THE THEOREMS, to be held beside demands 2 and 3. W is the number of states of the kind of model and k the number of events; nothing before
+-- the file, which is the first kind's, knows how many they are. No axiom is used, and each condition stands in its statement. Under a statement stands what proves it.
 use Prim.Native.Nat.{ℕ, suc, _*_, _^_, _<_, _≤_}
 use native.Mathlib.Omega.{arith}
 use mathlib.Core.Path.{_≡_, refl, sym, ap, ap₂, _∙_}
@@ -7,16 +7,18 @@ use mathlib.Core.Bool.{Bool, true, false}
 use mathlib.Core.Logic.{_↔_, _⊎_, ⊎-elim}
 use mathlib.Core.List.{List, [], _++_}
 use mathlib.Core.Option.{some}
-use lib.ListN.{length, getElem?}
+use lib.ListN.{length, getElem?, take}
 use Rattle.laws.specs.Bits.{times}
 use Rattle.laws.specs.Words.{Word, power, empty}
-use Rattle.laws.specs.Model.{Machine, Path, homed, Accepted, Course, Kind, Model, machine, Within}
+use Rattle.laws.specs.Model.{Machine, Path, homed, Accepted, Course, Kind, eight, Model, machine, Within}
 use Rattle.laws.specs.Tables.{WordValue, Entry, noEntry, noEvent, Holds, Table, UpTo, Steps, Codes, Closes, wordOf}
 use Rattle.laws.specs.Profiles.{Profile, values, marked, join, image, setOf, SetMeans, profileOf}
 use Rattle.laws.specs.Profiles.{ProfileMeans, setValue, profileValue, HoldsSets, HoldsProfiles}
 use Rattle.laws.specs.Profiles.{isRejecting, FirstPair, Verdict, covered, uncovered, RightVerdict, verdict}
 use Rattle.laws.specs.Repeats.{Repeats, acceptedFrom}
 use Rattle.laws.specs.Opposite.{Arrow, sorted, blockProfiles, flags, stateCount, arrows, arrowCount, opposite, Opposed}
+use Rattle.laws.specs.Refusals.{Unrefused}
+use Rattle.laws.specs.File.{fileOf, reading}
 use Rattle.laws.specs.Answers.{CourseAnswer}
 use Rattle.laws.proofs.Places.{place-below}
 use Rattle.laws.proofs.Members.{member}
@@ -36,6 +38,10 @@ use Rattle.laws.proofs.Opposites.{opposed}
 use Rattle.laws.proofs.Sorted.{arrows-sorted, sorted-once}
 use Rattle.laws.proofs.Counts.{arrows-counted, states-counted, arrows-inside}
 use Rattle.laws.proofs.Answered.{one-judged}
+use Rattle.laws.proofs.Read.{withArrows}
+use Rattle.laws.proofs.FileForm.{form-read, one-model}
+use Rattle.laws.proofs.FileBytes.{first-bytes, few-bytes}
+use Rattle.laws.proofs.FileBack.{read-back, valid-exactly}
 
 -- The theorems speak of machines, where needed with states below W. Every model with at most W states is one
 pub every-model : (W : ℕ) (m : Model) → m .n ≤ W → Within W (machine W m)
@@ -214,3 +220,30 @@ module _ {S : Type 0} (M : Machine S) (k : ℕ) where
 pub one-judgement : {K : Kind} {m : Model} {u v : Word} {n l : ℕ} {c d : Bool} → CourseAnswer K m u v n c → CourseAnswer K m u v l d
     → (n ≡ l) × (c ≡ d)
 one-judgement = one-judged
+
+-- 7. THE FILE, of the first kind. What is read without a fault are exactly the files of models that are not refused, with room for their
+-- arrow numbers
+pub files-are-valid : (bytes : List ℕ) (room : ℕ) → (reading bytes room .fault .number ≡ 0)
+    ↔ ((m : Model) × Unrefused eight m × (m .k ≤ room) × (fileOf m ≡ bytes))
+files-are-valid = valid-exactly
+
+-- what is read of a model's file is the model, with the arrow numbers of its k events
+pub files-read-back : (m : Model) (room : ℕ) → Unrefused eight m → m .k ≤ room
+    → reading (fileOf m) room
+    ≡ record { fault = record { number = 0; offset = 0 }; model = withArrows m (take (m .k) (m .arrows)) }
+files-read-back = read-back
+
+-- the model that was read determines the bytes: they are its file, and no others are
+pub files-are-written : (bytes : List ℕ) (room : ℕ) → reading bytes room .fault .number ≡ 0 → fileOf (reading bytes room .model) ≡ bytes
+files-are-written = form-read
+
+pub one-file : (bytes bytes′ : List ℕ) (room room′ : ℕ) → reading bytes room .fault .number ≡ 0 → reading bytes′ room′ .fault .number ≡ 0
+    → reading bytes room .model ≡ reading bytes′ room′ .model → bytes ≡ bytes′
+one-file = one-model
+
+-- it has at most 211 bytes, and nothing behind the first 212 is looked at
+pub files-are-short : (bytes : List ℕ) (room : ℕ) → reading bytes room .fault .number ≡ 0 → length bytes ≤ 211
+files-are-short = few-bytes
+
+pub file-beginning : (bytes : List ℕ) (room : ℕ) → reading (take 212 bytes) room ≡ reading bytes room
+file-beginning = first-bytes

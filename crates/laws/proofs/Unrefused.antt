@@ -12,9 +12,10 @@ use lib.Dec.{ltb, leb}
 use borrow.Author.Tests.{ltb-false, leb-false, lt-ltb, le-ltb, lt-leb}
 use Rattle.laws.specs.Bits.{bit, fromBits, cell, grid, packedRow, someBelow, someOf}
 use Rattle.laws.specs.Model.{Kind, Model, isState, leads, machine}
-use Rattle.laws.specs.Refusals.{Check, firstOf, fault, refuse, outside, maskBeyond, arrowsBeyond, modelChecks, Unrefused}
+use Rattle.laws.specs.Refusals.{firstOf, fault, refuse, outside, maskBeyond, arrowsBeyond, modelChecks, Unrefused}
 use Rattle.laws.specs.Profiles.{startSet, eventProfile}
 use Rattle.laws.proofs.Booleans.{both, and-right, same-test, never, either, some-below, below-some}
+use Rattle.laws.proofs.Checks.{shows-check}
 use Rattle.laws.proofs.Packing.{bit-fromBits, fromBits-below, bit-inside, same-bits, cell-grid, grid-below, same-cells}
 use Rattle.laws.proofs.Packing.{row-bit, row-small, bit-cell, inside-bits}
 
@@ -28,7 +29,7 @@ nor e f = rw (e, f)
 
 -- a test fails of the first k elements exactly if it fails of each by its place
 module _ {A : Type 0} (f : A → Bool) (d : A) where
-  none-meets : (xs : List A) (k i : ℕ) → someOf f (take k xs) ≡ false → i < k → i < length xs → f (getD xs i d) ≡ false
+  pub none-meets : (xs : List A) (k i : ℕ) → someOf f (take k xs) ≡ false → i < k → i < length xs → f (getD xs i d) ≡ false
   unfolding someOf
   none-meets [] k i h l m = absurd (omega arith)
   none-meets (x ∷ xs) zero i h l m = absurd (omega arith)
@@ -43,7 +44,7 @@ module _ {A : Type 0} (f : A → Bool) (d : A) where
   all-miss (x ∷ xs) (suc k) h = nor (h 0 (omega arith)) (all-miss xs k (λ i l. h (suc i) (omega arith)))
 
 -- x is in its range exactly if it is not outside
-in-range : (limit x : ℕ) → (outside limit x ≡ false) ↔ ((1 ≤ x) × (x ≤ limit))
+pub in-range : (limit x : ℕ) → (outside limit x ≡ false) ↔ ((1 ≤ x) × (x ≤ limit))
 unfolding outside
 in-range limit x = (
   (λ e. let (l, m) = neither (ltb x 1) (ltb limit x) e in (ltb-false x 1 l, ltb-false limit x m)),
@@ -51,11 +52,11 @@ in-range limit x = (
 )
 
 -- a mask names no state n or above exactly if all its bits are below n
-mask-below : (n x : ℕ) → maskBeyond n x ≡ false → x < 2 ^ n
+pub mask-below : (n x : ℕ) → maskBeyond n x ≡ false → x < 2 ^ n
 unfolding maskBeyond
 mask-below n x = leb-false (2 ^ n) x
 
-mask-inside : (n x : ℕ) → (maskBeyond n x ≡ false) ↔ ((p : ℕ) → bit x p ≡ true → p < n)
+pub mask-inside : (n x : ℕ) → (maskBeyond n x ≡ false) ↔ ((p : ℕ) → bit x p ≡ true → p < n)
 unfolding maskBeyond
 mask-inside n x = ((λ e p. bit-inside n x p (mask-below n x e)), (λ h. lt-leb (2 ^ n) x (inside-bits n x h)))
 
@@ -64,7 +65,7 @@ module _ (W n x : ℕ) where
   abbrev beyond : ℕ → Bool
   beyond p = maskBeyond n (packedRow W x p)
 
-  number-below : arrowsBeyond W n x ≡ false → x < 2 ^ (W * n)
+  pub number-below : arrowsBeyond W n x ≡ false → x < 2 ^ (W * n)
   unfolding arrowsBeyond
   number-below e = leb-false (2 ^ (W * n)) x (neither (leb (2 ^ (W * n)) x) (someBelow n beyond) e .0)
 
@@ -77,7 +78,15 @@ module _ (W n x : ℕ) where
       let row : beyond p ≡ false = ⊎-elim (λ t. never (sym none ∙ some-below beyond n p p-below t)) (λ t. t) (either (beyond p)) in
       (p-below, mask-inside n (packedRow W x p) .0 row q (row-bit W x p q hq ∙ b))
 
-  inside-ends : zero < W → ((p q : ℕ) → q < W → cell W x p q ≡ true → (p < n) × (q < n)) → arrowsBeyond W n x ≡ false
+  -- no row of such a number has a bit n or above
+  pub rows-inside : ((p q : ℕ) → q < W → cell W x p q ≡ true → (p < n) × (q < n)) → (p : ℕ) → beyond p ≡ false
+  rows-inside h p =
+      mask-inside n (packedRow W x p) .1
+      (λ q b.
+      let q-below = bit-inside W (packedRow W x p) q (row-small W x p) b in
+      h p q q-below (sym (row-bit W x p q q-below) ∙ b) .1)
+
+  pub inside-ends : zero < W → ((p q : ℕ) → q < W → cell W x p q ≡ true → (p < n) × (q < n)) → arrowsBeyond W n x ≡ false
   unfolding arrowsBeyond
   inside-ends w h = nor (lt-leb (2 ^ (W * n)) x (inside-bits (W * n) x low)) (⊎-elim some-row (λ t. t) (either (someBelow n beyond)))
     where
@@ -86,30 +95,16 @@ module _ (W n x : ℕ) where
           let (q-below, c) = bit-cell W x i w b in
           omega (arith, div-lt-iff-lt-mul {k = W} {x = i} {y = n} w .0 (h (i / W) (i % W) q-below c .0), mul-comm W n)
 
-      fits : (p : ℕ) → beyond p ≡ false
-      fits p =
-          mask-inside n (packedRow W x p) .1
-          (λ q b.
-          let q-below = bit-inside W (packedRow W x p) q (row-small W x p) b in
-          h p q q-below (sym (row-bit W x p q q-below) ∙ b) .1)
-
       some-row : someBelow n beyond ≡ true → someBelow n beyond ≡ false
-      some-row t = let (p, l, e) = below-some beyond n t in never (sym (fits p) ∙ e)
-
--- where a list of checks comes to number 0, its first check does not apply, nor do the others
-passed : (number : ℕ) (applies : Bool) (cs : List Check) → firstOf (refuse (suc number) applies ∷ cs) .number ≡ 0
-    → (applies ≡ false) × (firstOf cs .number ≡ 0)
-unfolding firstOf refuse fault
-passed number true cs h = absurd (omega arith)
-passed number false cs h = (refl, h)
+      some-row t = let (p, l, e) = below-some beyond n t in never (sym (rows-inside h p) ∙ e)
 
 -- A MODEL IS NOT REFUSED with 1, 2 or 3 exactly if it is as asked
 pub unrefused : (K : Kind) (m : Model) → firstOf (modelChecks K m) .number ≡ 0 → Unrefused K m
-unfolding modelChecks
+unfolding modelChecks refuse
 unrefused K m h =
-    let (ranges, h₁) = passed 0 _ _ h in
-    let (few, h₂) = passed 1 _ _ h₁ in
-    let (bits, _) = passed 2 _ _ h₂ in
+    let (ranges, h₁) = shows-check 0 0 _ _ h in
+    let (few, h₂) = shows-check 1 0 _ _ h₁ in
+    let (bits, _) = shows-check 2 0 _ _ h₂ in
     let (n-range, k-range) = neither _ _ ranges in
     let (masks, arrows) = neither _ _ bits in
     let (start, home) = neither _ _ masks in

@@ -76,16 +76,18 @@ module _ (bytes : List ℕ) where
   unfoldable pub endChecks : ℕ → List Check
   endChecks o = fault 8 o (not (standAt o endField)) ∷ fault 8 (o + 3) (ltb (o + 3) (length bytes)) ∷ []
 
-  -- ALL FIELDS IN ORDER, when the file says n and k and there is room for so many arrow numbers: the first fault decides
-  unfoldable pub fileChecks : ℕ → ℕ → ℕ → List Check
-  fileChecks n k room =
+  -- the four fields before the events, when the file says n and k and there is room for so many arrow numbers
+  unfoldable pub frontChecks : ℕ → ℕ → ℕ → List Check
+  frontChecks n k room =
       numberChecks 0 0x01 (eight .states)
       ++ numberChecks 4 0x02 (eight .events)
       ++ (fault 2 4 (ltb room k) ∷ [])
       ++ maskChecks 8 0x03 n
       ++ maskChecks 12 0x04 n
-      ++ eachBelow k (eventChecks n)
-      ++ endChecks (eventOffset n k)
+
+  -- ALL FIELDS IN ORDER: the first fault decides
+  unfoldable pub fileChecks : ℕ → ℕ → ℕ → List Check
+  fileChecks n k room = frontChecks n k room ++ eachBelow k (eventChecks n) ++ endChecks (eventOffset n k)
 
   -- the model in a file without a fault
   unfoldable pub modelRead : ℕ → ℕ → Model

@@ -26,6 +26,14 @@ unfoldable pub firstOf : List Check → Fault
 firstOf [] = record { number = 0; offset = 0 }
 firstOf (c ∷ cs) = elim (c .applies) [ true ↦ record { number = c .number; offset = c .offset } | false ↦ firstOf cs ]
 
+-- none of these checks applies, so what follows them decides
+abbrev pub Passed : List Check → Type 0
+Passed checks = (rest : List Check) → firstOf (checks ++ rest) ≡ firstOf rest
+
+-- the first of these that applies has this number and offset, whatever follows
+abbrev pub Stopped : List Check → ℕ → ℕ → Type 0
+Stopped checks number offset = (rest : List Check) → firstOf (checks ++ rest) ≡ record { number = number; offset = offset }
+
 -- a check with its number and its place in a file
 unfoldable pub fault : ℕ → ℕ → Bool → Check
 fault number offset applies = record { number = number; offset = offset; applies = applies }
@@ -68,7 +76,10 @@ pub record Unrefused (K : Kind) (m : Model) : Type 0 where
   pub home-inside : (p : ℕ) → bit (m .home) p ≡ true → p < m .n
   pub arrows-inside : (a p q : ℕ) → a < m .k → q < K .states → cell (K .states) (getD (m .arrows) a 0) p q ≡ true → (p < m .n) × (q < m .n)
 
--- OF ONE COURSE of a model: 10 v is empty; 9 a letter of u or v is k or above
+-- of the two words of a course over k events: 10 v is empty; 9 a letter of u or v is k or above
+unfoldable pub wordChecks : ℕ → Word → Word → List Check
+wordChecks k u v = refuse 10 (empty v) ∷ refuse 9 (not (lettersBelow k u && lettersBelow k v)) ∷ []
+
+-- OF ONE COURSE of a model: the model's, then those of its words
 unfoldable pub courseChecks : Kind → Model → Word → Word → List Check
-courseChecks K m u v =
-    modelChecks K m ++ (refuse 10 (empty v) ∷ refuse 9 (not (lettersBelow (m .k) u && lettersBelow (m .k) v)) ∷ [])
+courseChecks K m u v = modelChecks K m ++ wordChecks (m .k) u v

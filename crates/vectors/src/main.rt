@@ -3,9 +3,9 @@
 // was written by the independent program.
 ghost use Prim.Native.Nat.{_≤_};
 use cover::Judgement;
-use cover::Model;
 use libc::STDIN_FILENO;
 use libc::STDOUT_FILENO;
+use model::Model;
 
 mod runs;
 mod sums;

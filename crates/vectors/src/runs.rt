@@ -11,7 +11,7 @@ use crate::sums::tone_of;
 use crate::sums::wide;
 use cover::Answer;
 use cover::Closed;
-use cover::Model;
+use model::Model;
 
 // The slices are longer than the limits, so that it is seen that nothing is written beyond these.
 pub const SETS: usize = 260;

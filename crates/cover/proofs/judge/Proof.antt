@@ -11,9 +11,9 @@ use Rattle.laws.specs.Model as paper
 use Rattle.laws.specs.Model.{eight, machine}
 use Rattle.laws.specs.Refusals.{firstOf, courseChecks}
 use Rattle.laws.proofs.Booleans.{never}
-use Rattle.cover.specs.Values.{asked}
+use Rattle.model.specs.Asked.{asked}
 use Rattle.cover.specs.Courses.{number, accepted, isSaid, JudgesCourse, Readable}
-use Rattle.cover.specs.declared.model.Model.{Model}
+use Rattle.model.specs.declared.Model.{Model}
 use Rattle.cover.specs.declared.course.Judgement.the-variants.{Accepted, Rejected, Refused}
 use Rattle.cover.proofs.Judging.{course-asked}
 use Rattle.cover.proofs.judge.Statement.{statement}

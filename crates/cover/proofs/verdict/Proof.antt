@@ -4,7 +4,7 @@ use native.Mathlib.Nat.{le-trans}
 use mathlib.Core.Path.{sym}
 use lib.Seq.{length-take-le}
 use borrow.Author.Needs.{needs}
-use Rattle.cover.proofs.Verdicts.{sets-stand, profiles-stand, refuses, stored, judges}
+use Rattle.cover.proofs.Verdicts.{sets-stand, profiles-stand, refuses, stored, gives-concluded}
 use Rattle.cover.proofs.verdict.Statement.{statement}
 use Rattle.cover.proofs.verdict.Tie as tie
 
@@ -148,7 +148,7 @@ returns-2 : tie.Need-returns-2
 returns-2 c =
     let e = c .before .before .before .before .before .before .before .before .before .before .before in
     let d = e .before .before .before .before .before .before .before .before in
-    judges (d .before .before .before .before .before .before .before .before .close .ensures) (e .if1 .left) (c .before .before .conclude .ensures)
+    gives-concluded (d .before .before .before .before .before .before .before .before .close .ensures) (e .if1 .left) (c .before .before .conclude .ensures)
 
 pub verdict-spec : {M : Type 1} → statement M
 verdict-spec =

@@ -7,7 +7,7 @@ use borrow.Author.Needs.{needs}
 use Rattle.laws.specs.Model.{eight, machine}
 use Rattle.laws.specs.Profiles.{setFrom, setOf}
 use Rattle.laws.proofs.Unrefused.{start-mask}
-use Rattle.cover.specs.Values.{asked}
+use Rattle.model.specs.Asked.{asked}
 use Rattle.cover.proofs.Judging.{letter-below, set-start, set-turn, set-end}
 use Rattle.cover.proofs.course.set_of.Statement.{statement}
 use Rattle.cover.proofs.course.set_of.Tie as tie

@@ -5,7 +5,7 @@ use borrow.Author.Needs.{needs}
 use Rattle.laws.specs.Bits.{bit}
 use Rattle.laws.specs.Profiles.{marked, marksRound}
 use Rattle.cover.specs.Values.{profile}
-use Rattle.cover.proofs.Searching.{Searched, start, miss, hit, end}
+use Rattle.laws.proofs.Searching.{Searched, start, miss, hit, end}
 use Rattle.cover.proofs.pairs.marks_round.Statement.{statement}
 use Rattle.cover.proofs.pairs.marks_round.Tie as tie
 

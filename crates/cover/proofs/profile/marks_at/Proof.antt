@@ -4,7 +4,7 @@ use mathlib.Core.Bool.{_&&_, _||_}
 use borrow.Author.Needs.{needs}
 use Rattle.laws.specs.Profiles.{leadsTo, marked}
 use Rattle.cover.specs.Values.{profile}
-use Rattle.cover.proofs.Searching.{Searched, start, miss, hit, end}
+use Rattle.laws.proofs.Searching.{Searched, start, miss, hit, end}
 use Rattle.cover.proofs.profile.marks_at.Statement.{statement}
 use Rattle.cover.proofs.profile.marks_at.Tie as tie
 

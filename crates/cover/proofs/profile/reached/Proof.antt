@@ -3,7 +3,7 @@ use Prim.Native.Nat.{_-_}
 use mathlib.Core.Bool.{_&&_}
 use borrow.Author.Needs.{needs}
 use Rattle.laws.specs.Bits.{bit, cell}
-use Rattle.cover.proofs.Searching.{Searched, start, miss, hit, end}
+use Rattle.laws.proofs.Searching.{Searched, start, miss, hit, end}
 use Rattle.cover.proofs.profile.reached.Statement.{statement}
 use Rattle.cover.proofs.profile.reached.Tie as tie
 

@@ -7,7 +7,7 @@ use Rattle.laws.specs.Model.{Machine, machine}
 use Rattle.laws.specs.Tables.{WordValue}
 use Rattle.laws.specs.Profiles.{Profile, profileValue}
 use Rattle.laws.specs.Answers.{ProfileSlices, profileSlices}
-use Rattle.cover.specs.Values.{asked}
+use Rattle.model.specs.Asked.{asked}
 use Rattle.cover.specs.Memory.{profileMemory, ProfilesLent}
 use Rattle.cover.proofs.Filling.{Since, nearer, counts-on, goes, still-lent, begin-cut, entries-cut, entries-next, entries-done}
 use Rattle.cover.proofs.ProfileTable.{read-at, profileLayout, SameLengths, room-lent, table-fills}

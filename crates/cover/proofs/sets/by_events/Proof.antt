@@ -8,7 +8,7 @@ use Rattle.laws.specs.Model.{machine}
 use Rattle.laws.specs.Tables.{WordValue, byEvents}
 use Rattle.laws.specs.Profiles.{nextSet, setValue}
 use Rattle.laws.specs.Answers.{SetSlices, setSlices}
-use Rattle.cover.specs.Values.{asked}
+use Rattle.model.specs.Asked.{asked}
 use Rattle.cover.specs.Memory.{setMemory, setsIn, going}
 use Rattle.cover.proofs.Filling.{ByEvents, still-lent, events-begin, events-cut, events-next, events-done}
 use Rattle.cover.proofs.SetTable.{setLayout, SameLengths}

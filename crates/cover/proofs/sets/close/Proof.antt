@@ -7,7 +7,7 @@ use Rattle.laws.specs.Model.{Machine, Model, machine}
 use Rattle.laws.specs.Tables.{WordValue}
 use Rattle.laws.specs.Profiles.{setValue}
 use Rattle.laws.specs.Answers.{SetSlices, setSlices}
-use Rattle.cover.specs.Values.{asked}
+use Rattle.model.specs.Asked.{asked}
 use Rattle.cover.specs.Memory.{setMemory, SetsLent}
 use Rattle.cover.proofs.Filling.{Since, nearer, counts-on, goes, still-lent, begin-cut, entries-cut, entries-next, entries-done}
 use Rattle.cover.proofs.SetTable.{read-at, setLayout, SameLengths, room-lent, table-fills}

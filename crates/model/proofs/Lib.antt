@@ -1,0 +1,9 @@
+-- what follows from the contract of reading
+pub mod Promises
+-- bits for states n or above
+pub mod Beyond
+-- the fields of a file
+pub mod FieldsRead
+-- the events of a file, and the whole of it
+pub mod EventsRead
+pub mod FileRead

@@ -1,0 +1,181 @@
+//! Runs the program on model files, whole and damaged, and holds every line it prints against what is found here.
+
+use crate::course::letters;
+use crate::damage::{
+    beyond, c, changed, cut, largest, lengthened, noise, reordered, scratched, shifted, valid, File,
+};
+use crate::file::{bytes_of, read};
+use crate::model::{Model, Verdict, MOST_EVENTS};
+use crate::random::Random;
+use crate::tables::Tables;
+use std::collections::BTreeMap;
+use std::io::Write;
+use std::process::{Command, Stdio};
+use std::thread;
+
+const SEED: u64 = 6;
+
+/// What the program must print for these bytes.
+pub fn printed(file: &[u8]) -> String {
+    match read(file, MOST_EVENTS) {
+        Err(fault) => format!("refused {} at {}\n", fault.number, fault.offset),
+        Ok(model) => verdict(&model),
+    }
+}
+
+fn verdict(model: &Model) -> String {
+    let tables = Tables::close(model, None, None);
+    let (sets, profiles) = (tables.sets.entries.len(), tables.profiles.entries.len());
+    let counts = format!("sets {}\nprofiles {}\n", sets, profiles);
+    match tables.verdict() {
+        None => format!("refused {}\n", tables.refusal()),
+        Some(Verdict::Covered) => counts + "covered\n",
+        Some(Verdict::Uncovered((u, v))) => {
+            counts + &format!("uncovered\nu{}\nv{}\n", letters(&u), letters(&v))
+        }
+    }
+}
+
+/// `program` is the command that runs the program.
+pub fn run(program: &[&str]) -> i32 {
+    let mut answers: BTreeMap<String, usize> = BTreeMap::new();
+    let (mut begun, mut high) = (false, false);
+    for (name, files) in batches() {
+        match compare(program, &files) {
+            Ok(printed) => {
+                for text in printed {
+                    *answers.entry(kind(&text)).or_default() += 1;
+                    begun |= text.contains("\nu ");
+                    high |= (10..MOST_EVENTS).any(|event| text.contains(&format!("\nv {}", event)));
+                }
+            }
+            Err(fault) => {
+                println!("FAILED {}: {}", name, fault);
+                return 1;
+            }
+        }
+        println!("ok {}: {}", name, files.len());
+    }
+    let told: Vec<String> = answers
+        .iter()
+        .map(|(kind, count)| format!("{} {}", kind, count))
+        .collect();
+    println!(
+        "{} files with seed {}: {}",
+        answers.values().sum::<usize>(),
+        SEED,
+        told.join(", ")
+    );
+    assert!(
+        begun && high,
+        "no u with an event, or no event of two digits"
+    );
+    for kind in [
+        "covered",
+        "uncovered",
+        "refused 1",
+        "refused 3",
+        "refused 5",
+        "refused 8",
+    ] {
+        assert!(
+            answers.contains_key(kind),
+            "no file is answered with {}",
+            kind
+        );
+    }
+    0
+}
+
+fn batches() -> Vec<(&'static str, Vec<File>)> {
+    let random = &mut Random::new(SEED);
+    let whole: Vec<File> = valid(random, 3).iter().map(bytes_of).collect();
+    vec![
+        (
+            "hand-worked models, our own, and three for every n and k",
+            whole,
+        ),
+        ("C's file with every byte changed", changed(&c())),
+        ("C's file cut at every length", cut(&c())),
+        ("C's file with bytes added", lengthened(&c())),
+        ("C's file with a byte left out or doubled", shifted(&c())),
+        (
+            "C's file with fields left out, doubled or swapped",
+            reordered(&c()),
+        ),
+        (
+            "a largest file with every byte changed",
+            changed(&largest()),
+        ),
+        ("a largest file cut at every length", cut(&largest())),
+        ("a largest file with bytes added", lengthened(&largest())),
+        (
+            "a largest file with a byte left out or doubled",
+            shifted(&largest()),
+        ),
+        (
+            "a largest file with fields left out, doubled or swapped",
+            reordered(&largest()),
+        ),
+        ("a bit for a state n or above in every mask", beyond(random)),
+        (
+            "random files with up to three bytes changed",
+            scratched(random, 300),
+        ),
+        ("random bytes behind a right beginning", noise(random, 100)),
+    ]
+}
+
+/// What was answered: the third line, or "refused" and its number.
+fn kind(text: &str) -> String {
+    let lines: Vec<&str> = text.lines().collect();
+    let line = lines.get(2).unwrap_or(&lines[0]);
+    line.split(" at ").next().unwrap_or(line).to_string()
+}
+
+/// Each worker takes a part of the files.
+fn compare(program: &[&str], files: &[File]) -> Result<Vec<String>, String> {
+    let workers = thread::available_parallelism().map_or(1, |count| count.get());
+    let part = files.len().div_ceil(workers);
+    thread::scope(|scope| {
+        let work = |files| scope.spawn(move || files_agree(program, files));
+        let running: Vec<_> = files.chunks(part).map(work).collect();
+        let done = running
+            .into_iter()
+            .map(|worker| worker.join().expect("a worker ends"));
+        Ok(done.collect::<Result<Vec<_>, String>>()?.concat())
+    })
+}
+
+fn files_agree(program: &[&str], files: &[File]) -> Result<Vec<String>, String> {
+    files.iter().map(|file| agrees(program, file)).collect()
+}
+
+fn agrees(program: &[&str], file: &File) -> Result<String, String> {
+    let expected = printed(file);
+    let (success, got) = theirs(program, file).map_err(|fault| fault.to_string())?;
+    if success && got == expected {
+        return Ok(expected);
+    }
+    Err(format!(
+        "{:02X?}: the program ends with {} and prints {:?}, expected {:?}",
+        file, success, got, expected
+    ))
+}
+
+fn theirs(program: &[&str], file: &File) -> std::io::Result<(bool, String)> {
+    let mut child = Command::new(program[0])
+        .args(&program[1..])
+        .stdin(Stdio::piped())
+        .stdout(Stdio::piped())
+        .spawn()?;
+    let mut input = child.stdin.take().expect("a pipe");
+    // The program stops reading where it has seen enough.
+    let _ = input.write_all(file);
+    drop(input);
+    let output = child.wait_with_output()?;
+    Ok((
+        output.status.success(),
+        String::from_utf8_lossy(&output.stdout).into_owned(),
+    ))
+}
