@@ -208,14 +208,40 @@ fn edges() -> Outcome {
     ))
 }
 
-/// C's file as document 01 lists it, damaged in ways whose fault is worked by hand, and random models read back.
+/// C's file as document 01 lists it.
+#[rustfmt::skip]
+const C_FILE: [u8; 31] = [
+    0x01, 0x01, 0x00, 0x02, 0x02, 0x01, 0x00, 0x02, 0x03, 0x01, 0x00, 0x01, 0x04, 0x01, 0x00, 0x02,
+    0x05, 0x03, 0x00, 0x00, 0x02, 0x02, 0x05, 0x03, 0x00, 0x01, 0x01, 0x01, 0x7F, 0x00, 0x00,
+];
+
+/// C's file, damaged in ways whose fault is worked by hand, and random models read back.
 fn model_files() -> Outcome {
-    #[rustfmt::skip]
-    let c = vec![
-        0x01, 0x01, 0x00, 0x02, 0x02, 0x01, 0x00, 0x02, 0x03, 0x01, 0x00, 0x01, 0x04, 0x01, 0x00, 0x02,
-        0x05, 0x03, 0x00, 0x00, 0x02, 0x02, 0x05, 0x03, 0x00, 0x01, 0x01, 0x01, 0x7F, 0x00, 0x00,
-    ];
-    expect_list("C's file", &bytes_of(&named("C")), &c)?;
+    expect_list("C's file", &bytes_of(&named("C")), &C_FILE)?;
+    let damaged = c_changed()? + c_cut()? + c_twice_wrong()?;
+    let mut random = Random::new(1_200);
+    for _ in 0..1_000 {
+        let model = random.model_up_to(8, 16);
+        let back = read(&bytes_of(&model), model.k).map(|back| back.to_string());
+        expect("a model read back", back, Ok(model.to_string()))?;
+    }
+    Ok(format!("{} damaged, 1000 models read back", damaged))
+}
+
+fn expect_fault(file: &[u8], room: usize, number: u8, offset: usize) -> Result<(), String> {
+    let what = format!("{:02X?} with room {}", file, room);
+    let found = read(file, room).map(|model| bytes_of(&model));
+    expect(&what, found, Err(Fault { number, offset }))
+}
+
+fn c_with(changes: &[(usize, u8)]) -> File {
+    let mut file = C_FILE.to_vec();
+    changes.iter().for_each(|&(at, value)| file[at] = value);
+    file
+}
+
+/// One byte changed: the place and the value, and the number and the offset it must give.
+fn c_changed() -> Result<usize, String> {
     #[rustfmt::skip]
     let changes: [(usize, u8, u8, usize); 21] = [
         (0, 0x11, 8, 0), (1, 0, 8, 0), (2, 1, 8, 0), (3, 0, 1, 0), (3, 9, 1, 0), (7, 0, 1, 4), (7, 17, 1, 4),
@@ -224,65 +250,41 @@ fn model_files() -> Outcome {
         (29, 1, 8, 28), (30, 1, 8, 28),
     ];
     for (at, value, number, offset) in changes {
-        let mut file = c.clone();
-        file[at] = value;
-        let fault = Err(Fault { number, offset });
-        let what = format!("C's file with {} at {}", value, at);
-        expect(&what, read(&file, 16).map(|model| bytes_of(&model)), fault)?;
+        expect_fault(&c_with(&[(at, value)]), 16, number, offset)?;
     }
-    let fields = [0, 4, 8, 12, 16, 22, 28, 31];
-    for length in 0..c.len() {
-        let offset = *fields.iter().rev().find(|&&at| at <= length).expect("0");
-        let fault = Err(Fault { number: 8, offset });
-        let what = format!("C's file cut at {}", length);
-        expect(
-            &what,
-            read(&c[..length], 16).map(|model| bytes_of(&model)),
-            fault,
-        )?;
+    Ok(changes.len())
+}
+
+/// Cut at every length: the field that is cut or missing has the fault.
+fn c_cut() -> Result<usize, String> {
+    let fields = [0, 4, 8, 12, 16, 22, 28];
+    for length in 0..C_FILE.len() {
+        let begun = fields.iter().rev().find(|&&at| at <= length);
+        let offset = *begun.expect("a field begins at 0");
+        expect_fault(&C_FILE[..length], 16, 8, offset)?;
     }
-    let more = [&c[..], &[0]].concat();
-    let with = |changes: &[(usize, u8)]| {
-        let mut file = c.clone();
-        changes.iter().for_each(|&(at, value)| file[at] = value);
-        file
-    };
-    // One byte too many; two faults, of which the first decides; and too little room for k, before and after other faults.
-    let others: [(File, usize, u8, usize); 10] = [
+    Ok(C_FILE.len())
+}
+
+/// One byte too many; two faults, of which the first decides; and too little room for k, before and after other faults.
+fn c_twice_wrong() -> Result<usize, String> {
+    let more = [&C_FILE[..], &[0]].concat();
+    let cases: [(File, usize, u8, usize); 10] = [
         (more, 16, 8, 31),
-        (with(&[(3, 9), (0, 2)]), 16, 8, 0),
-        (with(&[(3, 9), (7, 17)]), 16, 1, 0),
-        (with(&[(11, 4), (8, 4)]), 16, 8, 8),
-        (with(&[(20, 4), (19, 1)]), 16, 8, 16),
-        (with(&[(20, 4), (26, 4)]), 16, 3, 16),
-        (with(&[(7, 17)]), 0, 1, 4),
-        (c.clone(), 0, 2, 4),
-        (c.clone(), 1, 2, 4),
-        (c[..8].to_vec(), 1, 2, 4),
+        (c_with(&[(3, 9), (0, 2)]), 16, 8, 0),
+        (c_with(&[(3, 9), (7, 17)]), 16, 1, 0),
+        (c_with(&[(11, 4), (8, 4)]), 16, 8, 8),
+        (c_with(&[(20, 4), (19, 1)]), 16, 8, 16),
+        (c_with(&[(20, 4), (26, 4)]), 16, 3, 16),
+        (c_with(&[(7, 17)]), 0, 1, 4),
+        (c_with(&[]), 0, 2, 4),
+        (c_with(&[]), 1, 2, 4),
+        (C_FILE[..8].to_vec(), 1, 2, 4),
     ];
-    for (file, room, number, offset) in &others {
-        let fault = Fault {
-            number: *number,
-            offset: *offset,
-        };
-        let what = format!("{:02X?} with room {}", file, room);
-        expect(
-            &what,
-            read(file, *room).map(|model| bytes_of(&model)),
-            Err(fault),
-        )?;
+    for (file, room, number, offset) in &cases {
+        expect_fault(file, *room, *number, *offset)?;
     }
-    let mut random = Random::new(1_200);
-    for _ in 0..1_000 {
-        let model = random.model_up_to(8, 16);
-        let back = read(&bytes_of(&model), model.k).map(|back| back.to_string());
-        expect("a model read back", back, Ok(model.to_string()))?;
-    }
-    Ok(format!(
-        "{} changes, {} cuts, 1000 models read back",
-        changes.len() + others.len(),
-        c.len()
-    ))
+    Ok(cases.len())
 }
 
 /// C after one change, with the number it must give.

@@ -91,8 +91,8 @@ fn profile_of_word(m: Model, arrows: &[u64], w: &[u8]) -> Profile
     t
 }
 
-// All repeats of a profile in one: joined with itself as often as that leads or marks anything more. Each turn adds at least one of 128 bits,
-// so it ends. A mark where t does not lead would spread to ways that no repeat of t marks.
+// All repeats of a profile in one: joined with itself as often as that leads or marks anything more. Each turn adds at least one of 128
+// bits, so it ends. A mark where t does not lead would spread to ways that no repeat of t marks.
 fn repeated(t: Profile) -> Profile
     requires { ⌜ MarksLed 8 (profile t) ⌝ }
     ensures { λ c. ⌜ Repeats 8 (profile t) (profile c) ⌝ }

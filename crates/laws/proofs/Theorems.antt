@@ -1,5 +1,6 @@
 -- THE THEOREMS, to be held beside demands 2 and 3. W is the number of states of the kind of model and k the number of events; nothing before
--- the file, which is the first kind's, knows how many they are. No axiom is used, and each condition stands in its statement. Under a statement stands what proves it.
+-- the file, which is the first kind's, knows how many they are. No axiom is used, and each condition stands in its statement. Under a
+-- statement stands what proves it.
 use Prim.Native.Nat.{ℕ, suc, _*_, _^_, _<_, _≤_}
 use native.Mathlib.Omega.{arith}
 use mathlib.Core.Path.{_≡_, refl, sym, ap, ap₂, _∙_}

@@ -24,7 +24,7 @@ const TAG_EVENT: u8 = 0x05;
 const HEAD: usize = 3;
 
 // The end field is a head and nothing behind it, byte for byte.
-pub const END: [u8; 3] = [0x7F, 0x00, 0x00];
+const END: [u8; 3] = [0x7F, 0x00, 0x00];
 
 // The value of a field, or the number of its fault and the offset that is told with it.
 pub enum Field {

@@ -63,7 +63,7 @@ pub fn front(file: &[u8], room: usize) -> Reading
 }
 
 // The first k numbers, written to the beginning of the lent slice.
-pub fn lend(numbers: [u64; Model::EVENTS], k: usize, arrows: &mut [u64])
+pub fn hand_over(numbers: [u64; Model::EVENTS], k: usize, arrows: &mut [u64])
     requires { ⌜ (k ≤ 16) × (k ≤ length (now arrows)) ⌝ }
     ensures { λ r. ⌜ now (arrows .exit) ≡ over (take k numbers) (now (arrows .entry)) ⌝ }
 {

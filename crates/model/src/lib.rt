@@ -62,7 +62,7 @@ pub fn refusal(m: Model, arrows: &[u64]) -> u8
     0
 }
 
-// Reads a model file: fields in order, and the first fault decides. The arrow numbers go to the lent slice when all is right. Takes any
+// Reads a model file field by field, up to the first that is wrong. The arrow numbers go to the lent slice when all is right. Takes any
 // bytes and any slice.
 pub fn read(file: &[u8], arrows: &mut [u64]) -> Reading
     ensures { λ r. ⌜ ReadsFile (now (file .entry)) (now (arrows .entry)) (now (arrows .exit)) r ⌝ }
@@ -87,6 +87,6 @@ pub fn read(file: &[u8], arrows: &mut [u64]) -> Reading
     let Field::Value { value: _ } = end else {
         return file::refused(end);
     };
-    file::lend(numbers, k, arrows);
+    file::hand_over(numbers, k, arrows);
     front
 }

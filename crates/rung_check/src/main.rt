@@ -7,8 +7,8 @@ use libc::STDOUT_FILENO;
 use model::Model;
 use model::Reading;
 
-// A longest valid file has 211 bytes. With one byte more it is seen that something follows, and no check looks any further, so a longer file
-// is judged by its first 212 bytes as it is by all of them: `file-beginning` in the theorems of `laws` says so.
+// A longest valid file has 211 bytes. With one byte more it is seen that something follows, and no check looks any further, so a longer
+// file is judged by its first 212 bytes as it is by all of them: `file-beginning` in the theorems of `laws` says so.
 const MOST_BYTES: usize = 212;
 
 // The word memory of document 01: u has at most 255 letters and v at most 2,048.

@@ -103,8 +103,8 @@ returns-3 c =
     refuses-end _ _ (was-read (left .before .before .before)) (left .before .loop .inv) (left .loop-test .left)
     (end .before .event-offset .ensures .0) (c .before .enum-told4 .given .1) (end .end-at .ensures) (c .refused2 .ensures)
 
-lend-requires : tie.Need-lend-requires Inv-loop μ-loop
-lend-requires c κs = let h = was-read (c .before .before .before .before .before .before .before .before) in (h .k-most, h .k-fits)
+hand-over-requires : tie.Need-hand-over-requires Inv-loop μ-loop
+hand-over-requires c κs = let h = was-read (c .before .before .before .before .before .before .before .before) in (h .k-most, h .k-fits)
 
 same-length : tie.Need-same-length Inv-loop μ-loop
 same-length c = search needs
@@ -115,7 +115,7 @@ returns-4 c =
     let end = told .before .before in
     let left = end .before .before in
     reads _ _ (was-read (left .before .before .before)) (left .before .loop .inv) (left .loop-test .left)
-    (end .before .event-offset .ensures .0) (told .enum-told3 .given .1) (end .end-at .ensures) (c .before .before .lend .ensures)
+    (end .before .event-offset .ensures .0) (told .enum-told3 .given .1) (end .end-at .ensures) (c .before .before .hand-over .ensures)
 
 pub read-spec : {M : Type 1} → statement M
 read-spec =
@@ -144,6 +144,6 @@ read-spec =
     enum-told-4
     refused-requires-2
     returns-3
-    lend-requires
+    hand-over-requires
     same-length
     returns-4)

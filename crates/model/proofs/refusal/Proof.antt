@@ -4,25 +4,16 @@ use mathlib.Core.Path.{_≡_, sym, _∙_}
 use mathlib.Core.Bool.{Bool, true, false, _||_}
 use mathlib.Core.Logic.{_⊎_, inl, inr, ⊎-elim}
 use lib.ListN.{length, take}
-use lib.Dec.{ltb}
 use borrow.Author.Needs.{needs}
-use borrow.Author.Tests.{ltb-false, lt-ltb, le-ltb}
+use borrow.Author.Tests.{lt-ltb, le-ltb}
 use Rattle.laws.specs.Bits.{someOf}
 use Rattle.laws.specs.Model.{Kind, Model, eight}
 use Rattle.laws.specs.Refusals.{firstOf, fault, refuse, outside, maskBeyond, arrowsBeyond, modelChecks}
-use Rattle.laws.proofs.Booleans.{or-left, or-right, never}
+use Rattle.laws.proofs.Booleans.{or-left, or-right}
+use Rattle.laws.proofs.Unrefused.{in-range}
 use Rattle.model.specs.Asked.{asked}
 use Rattle.model.proofs.refusal.Statement.{statement}
 use Rattle.model.proofs.refusal.Tie as tie
-
--- what is not outside its range is at most the limit
-at-most : (limit x : ℕ) → outside limit x ≡ false → x ≤ limit
-unfolding outside
-at-most limit x e = ltb-false limit x (right (ltb x 1) (ltb limit x) e)
-  where
-    right : (a b : Bool) → (a || b) ≡ false → b ≡ false
-    right true b h = never (sym h)
-    right false b h = h
 
 -- neither 1 nor 2 applies: both numbers are in their ranges, and there are as many numbers of arrows as are read
 record There (K : Kind) (m : Model) : Type 0 where
@@ -96,7 +87,7 @@ cast-row-beyond : tie.Need-cast-row-beyond
 cast-row-beyond c = search needs
 
 row-beyond-requires : tie.Need-row-beyond-requires
-row-beyond-requires c κs = at-most 8 _ (there (c .before) .states)
+row-beyond-requires c κs = in-range 8 _ .0 (there (c .before) .states) .1
 
 returns-4 : tie.Need-returns-4
 returns-4 c = third eight _ (there (c .before .before .before)) (inl (sym (c .before .row-beyond .ensures) ∙ c .if4 .taken))
@@ -105,7 +96,7 @@ cast-row-beyond-2 : tie.Need-cast-row-beyond-2
 cast-row-beyond-2 c = search needs
 
 row-beyond-requires-2 : tie.Need-row-beyond-requires-2
-row-beyond-requires-2 c κs = at-most 8 _ (there (c .before .before .before .before) .states)
+row-beyond-requires-2 c κs = in-range 8 _ .0 (there (c .before .before .before .before) .states) .1
 
 returns-5 : tie.Need-returns-5
 returns-5 c =
@@ -113,7 +104,7 @@ returns-5 c =
     (inr (inl (sym (c .before .row-beyond2 .ensures) ∙ c .if5 .taken)))
 
 some-beyond-requires : tie.Need-some-beyond-requires
-some-beyond-requires c κs = let h = there (c .before .before .before .before .before .before) in (at-most 8 _ (h .states), h .long)
+some-beyond-requires c κs = let h = there (c .before .before .before .before .before .before) in (in-range 8 _ .0 (h .states) .1, h .long)
 
 returns-6 : tie.Need-returns-6
 returns-6 c =

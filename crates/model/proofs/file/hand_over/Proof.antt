@@ -7,8 +7,8 @@ use lib.Seq.{length-take-le}
 use borrow.Author.Needs.{needs}
 use Rattle.laws.specs.Answers.{over}
 use Rattle.laws.proofs.Over.{over-nothing, over-length, over-next}
-use Rattle.model.proofs.file.lend.Statement.{statement}
-use Rattle.model.proofs.file.lend.Tie as tie
+use Rattle.model.proofs.file.hand_over.Statement.{statement}
+use Rattle.model.proofs.file.hand_over.Tie as tie
 
 abbrev Inv-loop : tie.InvT-loop
 Inv-loop k arrows₀ numbers a₀ arrows a = (a ≤ k) × (arrows ≡ over (take a numbers) arrows₀)
@@ -63,8 +63,8 @@ returns c =
     let all : c .before .loop .a ≡ c .before .before .args .k = omega arith in
     e ∙ ap (λ i. over (take i (c .before .before .args .t1)) (c .before .before .args .arrows .now)) all
 
-pub lend-spec : {M : Type 1} → statement M
-lend-spec =
+pub hand-over-spec : {M : Type 1} → statement M
+hand-over-spec =
     tie.close
     (tie.spec
     Inv-loop
