@@ -164,9 +164,9 @@ module _ (bytes : List ℕ) (room : ℕ) (f : Faultless bytes (value bytes 0) (v
       (⊎-elim (ltb-true p n) outside (either (ltb p n)), bit-inside n (getD (masks bytes n a) p 0) q (mask-small bytes n a right p) b)
 
   -- the model that was read is as asked
-  asked : Unrefused eight m
+  unrefused-form : Unrefused eight m
   unfolding modelRead
-  asked =
+  unrefused-form =
       let (n-least, n-most) = in-range 8 n .0 (f .n-inside) in
       let (k-least, k-most) = in-range 16 k .0 (f .k-inside) in
       record {
@@ -220,7 +220,7 @@ module _ (bytes : List ℕ) (room : ℕ) where
 
     -- that model is as asked
     pub unrefused-read : Unrefused eight (reading bytes room .model)
-    unrefused-read = subst (Unrefused eight) (sym read-model) (asked bytes room read-faultless)
+    unrefused-read = subst (Unrefused eight) (sym read-model) (unrefused-form bytes room read-faultless)
 
     -- and has k numbers of arrows, for which there is room
     pub arrows-read : (length (reading bytes room .model .arrows) ≡ reading bytes room .model .k) × (reading bytes room .model .k ≤ room)

@@ -1,4 +1,4 @@
--- what follows from the contract of reading
+-- what follows from the contracts
 pub mod Promises
 -- bits for states n or above
 pub mod Beyond

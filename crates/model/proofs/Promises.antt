@@ -1,5 +1,5 @@
--- WHAT FOLLOWS FROM THE CONTRACT OF READING: no second result meets it, a model that was read is not refused, a file is read exactly if it
--- is that of a model, and what is past the events stays as it was.
+-- WHAT FOLLOWS FROM THE CONTRACTS OF THE MODEL'S CALLS: no second result meets them; and of reading: a model that was read is not refused, a
+-- file is read exactly if it is that of a model, and what is past the events stays as it was.
 use Prim.Native.Nat.{ℕ, _≤_}
 use native.Mathlib.Omega.{arith}
 use mathlib.Core.Path.{_≡_, refl, sym, ap, ap₂, _∙_}
@@ -24,6 +24,11 @@ use Rattle.model.specs.declared.Model.{Model}
 use Rattle.model.specs.declared.Reading.{Reading}
 use Rattle.model.specs.declared.Reading.the-variants.{Read, Refused}
 use Rattle.model.proofs.FileRead.{numbers-fit, numbers-first}
+
+-- WHAT IS REFUSED OF A MODEL is one number
+pub one-refusal : (m : Model) (arrows : List ℕ) {r s : ℕ} → r ≡ firstOf (modelChecks eight (asked m arrows)) .number
+    → s ≡ firstOf (modelChecks eight (asked m arrows)) .number → r ≡ s
+one-refusal m arrows is other = is ∙ sym other
 
 -- a model of the code is its numbers and masks
 same-model : (a b : Model) → a .n ≡ b .n → a .k ≡ b .k → a .start ≡ b .start → a .home ≡ b .home → a ≡ b
