@@ -1,6 +1,6 @@
 /* An editor's use of the check. The models that document 01 works by hand are checked and printed, each held against what the document says
- * of it; then one of our own, C at the edges of what is refused, and C's tables in slices of different lengths. Exits with 1 if anything
- * differs. */
+ * of it; then one of our own, C at the edges of what is refused, C's tables in slices of different lengths, and opposites. Exits with 1 if
+ * anything differs. */
 #include "../include/cover.h"
 #include <stdio.h>
 #include <string.h>
@@ -10,6 +10,8 @@ static uint8_t set_masks[COVER_SETS], set_event[COVER_SETS];
 static uint16_t set_from[COVER_SETS], profile_from[COVER_PROFILES];
 static uint64_t profile_arrows[COVER_PROFILES], profile_marks[COVER_PROFILES];
 static uint8_t profile_event[COVER_PROFILES], memory[COVER_WORDS];
+static uint16_t from[COVER_ARROWS], to[COVER_ARROWS];
+static uint8_t event[COVER_ARROWS], flags[COVER_STATES];
 
 typedef struct {
   const char *name;
@@ -152,6 +154,71 @@ static int show_tables(void) {
          memcmp(last, want_last, sizeof want_last);
 }
 
+/* The opposite of a model with so much room. */
+static CoverOpposite oppose(const Model *m, size_t from_room, size_t event_room, size_t to_room, size_t state_room) {
+  memset(from, UNTOUCHED, sizeof from);
+  memset(event, UNTOUCHED, sizeof event);
+  memset(to, UNTOUCHED, sizeof to);
+  memset(flags, UNTOUCHED, sizeof flags);
+  return cover_opposite(m->n, m->k, m->start, m->home, m->arrows, 2, set_masks, COVER_SETS, set_from, COVER_SETS, set_event, COVER_SETS,
+                        profile_arrows, COVER_PROFILES, profile_marks, COVER_PROFILES, profile_from, COVER_PROFILES, profile_event,
+                        COVER_PROFILES, from, from_room, event, event_room, to, to_room, flags, state_room);
+}
+
+/* What document 01 lists: from, event, to. */
+static const uint16_t arrows_of_c[][3] = {{0, 0, 1}, {0, 0, 3}, {0, 1, 0}, {0, 1, 4}, {1, 0, 1}, {1, 1, 0}, {2, 0, 3}, {2, 1, 2},
+                                          {2, 1, 4}, {3, 0, 3}, {3, 1, 5}, {4, 0, 3}, {4, 1, 2}, {4, 1, 4}, {5, 0, 3}, {5, 1, 5}};
+
+/* Prints the opposite of a model, its accepting states first, and says whether it has other counts than these, or anything is written past
+ * them. */
+static int show_opposite(const Model *m, size_t states, size_t arrows) {
+  CoverOpposite r = oppose(m, COVER_ARROWS, COVER_ARROWS, COVER_ARROWS, COVER_STATES);
+  if (r.states > COVER_STATES || r.arrows > COVER_ARROWS)
+    return 1;
+  printf("%s's opposite: number %d, states %zu, arrows %zu, accepting", m->name, r.number, r.states, r.arrows);
+  for (size_t i = 0; i < r.states; i++)
+    if (flags[i] == 1)
+      printf(" %zu", i);
+  printf("\n");
+  for (size_t i = 0; i < r.arrows; i++)
+    printf("%d %d %d\n", from[i], event[i], to[i]);
+  int touched = 0;
+  for (size_t i = r.arrows; i < COVER_ARROWS; i++)
+    touched |= from[i] != UNTOUCHED * 257 || event[i] != UNTOUCHED || to[i] != UNTOUCHED * 257;
+  for (size_t i = r.states; i < COVER_STATES; i++)
+    touched |= flags[i] != UNTOUCHED;
+  return touched || r.number != COVER_DONE || r.states != states || r.arrows != arrows || r.sets != m->sets || r.profiles != m->profiles;
+}
+
+/* C's opposite as document 01 lists it: accepting only 2. */
+static int show_opposite_of_c(void) {
+  int differing = show_opposite(&C, 6, COUNT(arrows_of_c));
+  for (size_t i = 0; i < COUNT(arrows_of_c); i++)
+    differing |= from[i] != arrows_of_c[i][0] || event[i] != arrows_of_c[i][1] || to[i] != arrows_of_c[i][2];
+  for (size_t i = 0; i < 6; i++)
+    differing |= flags[i] != (i == 2);
+  return differing;
+}
+
+/* With this room C's opposite, which has 6 states and 16 arrows, is written or refused with 7, and then nothing of it is. */
+static int show_room(const char *what, size_t from_room, size_t event_room, size_t to_room, size_t state_room, uint8_t number) {
+  CoverOpposite r = oppose(&C, from_room, event_room, to_room, state_room);
+  printf("C's opposite with %s: number %d, sets %zu, profiles %zu, states %zu, arrows %zu\n", what, r.number, r.sets, r.profiles, r.states,
+         r.arrows);
+  size_t states = number == COVER_DONE ? 6 : 0, arrows = number == COVER_DONE ? 16 : 0;
+  return r.number != number || r.sets != C.sets || r.profiles != C.profiles || r.states != states || r.arrows != arrows ||
+         (number != COVER_DONE && (from[0] != UNTOUCHED * 257 || event[0] != UNTOUCHED || to[0] != UNTOUCHED * 257 || flags[0] != UNTOUCHED));
+}
+
+static int show_opposites(const Model *d, const Model *h) {
+  return show_opposite_of_c() + show_opposite(d, 2, 2) + show_opposite(h, 10, 30) +
+         show_room("just enough room", 16, 16, 16, 6, COVER_DONE) +
+         show_room("one place too few for where arrows start", 15, 16, 16, 6, COVER_MORE_OPPOSITE) +
+         show_room("one place too few for events", 16, 15, 16, 6, COVER_MORE_OPPOSITE) +
+         show_room("one place too few for where arrows lead", 16, 16, 15, 6, COVER_MORE_OPPOSITE) +
+         show_room("one place too few for flags", 16, 16, 16, 5, COVER_MORE_OPPOSITE);
+}
+
 int main(void) {
   int faults = 0;
   for (size_t i = 0; i < COUNT(before_c); i++)
@@ -164,6 +231,7 @@ int main(void) {
   /* one place more than the refusal above had */
   faults += show(&C, 3);
   faults += show_tables();
+  faults += show_opposites(&after_c[0], &after_c[4]);
   if (faults > 0)
     fprintf(stderr, "editor: %d of these are not what they should be\n", faults);
   return faults > 0;

@@ -1,11 +1,12 @@
-/* The check for an editor written in C: is every course of a model accepted, and if not, which one is not?
+/* The check for an editor written in C: is every course of a model accepted, and if not, which one is not? And the opposite machine, which
+ * accepts exactly the courses that the model does not.
  *
  * A course is a beginning u, which may be empty, and a round v of at least one event. u is read once, and then v again and again without
  * end. The model accepts the course if some start state has a way along its events, arrow by arrow, that comes past a home state again and
  * again for ever.
  *
- * Link target/staticlib/libcover.a (x86-64 Linux), which `rt staticlib cover` proves and writes. The call takes any numbers and slices of
- * any length, refuses what it cannot check, and always returns. It keeps no pointer and allocates nothing. A word is rebuilt by a call for
+ * Link target/staticlib/libeditor.a (x86-64 Linux), which `rt staticlib editor` proves and writes. Both calls take any numbers and slices of
+ * any length, refuse what they cannot check, and always return. They keep no pointer and allocate nothing. A word is rebuilt by a call for
  * each of its letters, 64 bytes of stack each as it is built now: with words of up to 2,048 letters that is up to 128 KiB.
  *
  * What the caller sees to. Each slice is a pointer and, behind it, how many elements stand there (elements, not bytes). The pointer is not
@@ -23,25 +24,31 @@
 extern "C" {
 #endif
 
-/* Room that is always enough: so many places in each of the three set slices, in each of the four profile slices, and so many bytes of word
- * memory. With these 4 and 6 never come, and 5 comes only for a model with more than 2,048 profiles, which no room can help. Slices may be
- * longer; what is behind these lengths is never touched. */
+/* Room that is always enough: so many places in each of the three set slices, in each of the four profile slices, so many bytes of word
+ * memory, and so many places in each of the three slices of the opposite's arrows and in that of its flags. With these 4 and 6 never come, 5
+ * comes only for a model with more than 2,048 profiles, and 7 only for an opposite with more than 65,535 states or arrows, which no room can
+ * help. Slices may be longer; what is behind these lengths is never touched. */
 #define COVER_SETS 256
 #define COVER_PROFILES 2048
 #define COVER_WORDS 2304
+#define COVER_ARROWS 65535
+#define COVER_STATES 65535
 
 /* What stands for "none" in set_from and profile_from, and in set_event. */
 #define COVER_NO_ENTRY 65535
 #define COVER_NO_EVENT 255
 
-/* CoverVerdict.number: 0, or why there is no verdict. Of several reasons the first in this list is given. */
-#define COVER_DONE 0          /* a verdict is given */
+/* CoverVerdict.number and CoverOpposite.number: 0, or why there is no verdict or no opposite. Of several reasons the first in this list is
+ * given; 6 comes with a verdict only, and 7 with an opposite only. */
+#define COVER_DONE 0          /* a verdict is given, or an opposite is written */
 #define COVER_OUT_OF_RANGE 1  /* n is not 1 to 8, or k is not 1 to 16 */
 #define COVER_FEW_ARROWS 2    /* arrows has fewer than k numbers */
 #define COVER_MISSING_STATE 3 /* a bit of start, home or one of the first k arrows names a state that is n or above */
 #define COVER_MORE_SETS 4     /* the model has more sets than room: the shortest of the three set slices, at most 256 */
 #define COVER_MORE_PROFILES 5 /* the model has more profiles than room: the shortest of the four profile slices, at most 2,048 */
 #define COVER_MORE_LETTERS 6  /* the model is not covered, and u and v together have more letters than the word memory has bytes */
+#define COVER_MORE_OPPOSITE 7 /* the opposite has more states than its flags have places, or more arrows than the shortest of their three slices
+                                 has, or more than 65,535 of either */
 
 /* CoverVerdict.verdict */
 #define COVER_NO_VERDICT 0 /* with every number but COVER_DONE */
@@ -81,6 +88,34 @@ CoverVerdict cover_verdict(
     uint8_t *profile_event, size_t profile_event_length,    /* its last event */
     /* written when the verdict is COVER_UNCOVERED, and only then: u, and right behind it v, a byte for each event; COVER_WORDS are enough */
     uint8_t *memory, size_t memory_length);
+
+/* The opposite's answer. Compare it field by field: there are unused bytes between the fields. */
+typedef struct CoverOpposite {
+  uint8_t number;
+  size_t sets;     /* how many sets stand in the set slices: after 0, 5 and 7 all; after 4 as many as there is room; after 1, 2 and 3 none */
+  size_t profiles; /* the same of profiles: after 0 and 7 all; after 5 as many as there is room; after 1 to 4 none */
+  size_t states;   /* how many states the opposite has, at least 1; 0 with every number but COVER_DONE */
+  size_t arrows;   /* how many arrows it has, at least 1; 0 with every number but COVER_DONE */
+} CoverOpposite;
+
+/* The opposite of a model: a machine over the same events that accepts exactly the courses that the model does not accept. Its states are 0
+ * to states-1, and its only start state is 0. It accepts a course as a model does, with its accepting states for home states.
+ *
+ * The arrows are sorted by where they start, then by their event, then by where they lead, and none is there twice. The first states are the
+ * sets, by their numbers. In every slice everything past the count is left as it was, whatever the number; after a refusal nothing of the
+ * opposite is written. */
+CoverOpposite cover_opposite(
+    size_t n, size_t k, uint8_t start, uint8_t home, const uint64_t *arrows, size_t arrows_length, /* the model, as for the verdict */
+    /* written, as by the verdict: a place for each set, and one for each profile */
+    uint8_t *set_masks, size_t set_masks_length, uint16_t *set_from, size_t set_from_length, uint8_t *set_event, size_t set_event_length,
+    uint64_t *profile_arrows, size_t profile_arrows_length, uint64_t *profile_marks, size_t profile_marks_length,
+    uint16_t *profile_from, size_t profile_from_length, uint8_t *profile_event, size_t profile_event_length,
+    /* written, a place for each arrow of the opposite; COVER_ARROWS places are always enough */
+    uint16_t *from, size_t from_length, /* the state where it starts */
+    uint8_t *event, size_t event_length,
+    uint16_t *to, size_t to_length, /* the state where it leads */
+    /* written, a place for each state of the opposite, 1 if it is accepting and else 0; COVER_STATES places are always enough */
+    uint8_t *flags, size_t flags_length);
 
 #ifdef __cplusplus
 }

@@ -1,10 +1,13 @@
-//! Times the library's closing, by running its program, against the straight look-up here, in one go. The library's time has in it what its
-//! program does besides, filling and summing the memory; that of the straight look-up is closing alone.
+//! Times the library's closing, by running its program, against the straight look-up here, in one go; and then the opposite of a model near
+//! the limits, counted and written. The library's time has in it what its program does besides, filling and summing the memory; that of the
+//! straight look-up is closing alone.
 
 use crate::model::{Model, MOST_EVENTS};
+use crate::opposite::counted;
+use crate::opposites::{bench_runs, near_the_limits};
 use crate::straight::Lent;
 use crate::tables::Tables;
-use crate::vectors::{large, repeated};
+use crate::vectors::{closed_once, large, opposed_once};
 use std::io::Write;
 use std::process::{Command, Stdio};
 use std::time::{Duration, Instant};
@@ -19,7 +22,41 @@ pub fn run(program: &[&str]) -> i32 {
             return 1;
         }
     }
+    if let Err(fault) = oppose(&near_the_limits(), program) {
+        eprintln!("oracle: {}", fault);
+        return 1;
+    }
     0
+}
+
+/// Closing is part of both calls of the opposite, so its time is taken off them. A refusal with one place too few is counting alone.
+fn oppose(model: &Model, program: &[&str]) -> Result<(), String> {
+    let [written, refused] = bench_runs(model);
+    let closing = per_run(program, closed_once(model))?;
+    let counting = per_run(program, opposed_once(model, refused))?.saturating_sub(closing);
+    let all = per_run(program, opposed_once(model, written))?.saturating_sub(closing);
+    let tables = Tables::close(model, None, None);
+    let size = counted(&tables);
+    println!(
+        "n {} k {}: {} sets, {} profiles, opposite with {} states and {} arrows: closing {:.2} ms, counting {:.2} ms, writing {:.2} ms",
+        model.n,
+        model.k,
+        tables.sets.entries.len(),
+        tables.profiles.entries.len(),
+        size.states,
+        size.arrows,
+        closing.as_secs_f64() * 1e3,
+        counting.as_secs_f64() * 1e3,
+        all.saturating_sub(counting).as_secs_f64() * 1e3,
+    );
+    Ok(())
+}
+
+/// The time that one more run of a stored case takes.
+fn per_run(program: &[&str], stored: (Vec<u8>, String)) -> Result<Duration, String> {
+    let once = theirs(&stored, program, 1)?;
+    let often = theirs(&stored, program, 1 + TIMES)?;
+    Ok(often.saturating_sub(once) / TIMES as u32)
 }
 
 /// The large models with more than 1,000 profiles, and the one with 2,048 again with its events repeated up to 16.
@@ -36,12 +73,10 @@ fn models() -> Vec<Model> {
 
 fn compare(model: &Model, program: &[&str]) -> Result<(), String> {
     let here = straight(model);
-    let once = theirs(model, program, 1)?;
-    let often = theirs(model, program, 1 + TIMES)?;
-    let library = often.saturating_sub(once) / TIMES as u32;
+    let library = per_run(program, closed_once(model))?;
     let (sets, profiles, cut) = Lent::cleared().close(model);
     let answer = format!("{} {} {} ", if cut { 5 } else { 0 }, sets, profiles);
-    if !repeated(model, 1).1.starts_with(&answer) {
+    if !closed_once(model).1.starts_with(&answer) {
         return Err(format!("the straight look-up ends with {:?}", answer));
     }
     println!(
@@ -70,9 +105,9 @@ fn straight(model: &Model) -> Duration {
     all / TIMES as u32
 }
 
-/// The time of the whole program on so many copies of the model; what it prints must be right.
-fn theirs(model: &Model, program: &[&str], times: usize) -> Result<Duration, String> {
-    let (input, line) = repeated(model, times);
+/// The time of the whole program on so many copies of a stored case; what it prints must be right.
+fn theirs(stored: &(Vec<u8>, String), program: &[&str], times: usize) -> Result<Duration, String> {
+    let (input, line) = (stored.0.repeat(times), &stored.1);
     let began = Instant::now();
     let mut child = Command::new(program[0])
         .args(&program[1..])

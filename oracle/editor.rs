@@ -1,7 +1,9 @@
-//! What the C editor must print: the hand-worked models, one whose u and v differ, C at the edges of what is refused, and C's tables.
+//! What the C editor must print: the hand-worked models, one whose u and v differ, C at the edges of what is refused, C's tables, and
+//! opposites.
 
 use crate::course::letters;
 use crate::model::{bit, hand_worked, named, Model, Verdict};
+use crate::opposite::Opposite;
 use crate::tables::{Entry, Tables, MOST_PROFILES, MOST_SETS};
 
 const MOST_WORDS: usize = 2_304;
@@ -23,6 +25,7 @@ pub fn print() -> i32 {
     print_edges();
     println!("C: {}", verdict(&named("C")));
     print_tables(&named("C"));
+    print_opposites();
     0
 }
 
@@ -94,5 +97,46 @@ fn print_rows(name: &str, rows: impl Iterator<Item = Vec<u64>>) {
     for (number, row) in rows.iter().enumerate() {
         let columns: String = row.iter().map(|x| format!(" {}", x)).collect();
         println!("C's {} {}:{}", name, number, columns);
+    }
+}
+
+/// The opposites of C, D and H, and C's with just enough room and with each slice one place too short.
+fn print_opposites() {
+    for name in ["C", "D", "H"] {
+        let opposite = Opposite::build(&Tables::close(&named(name), None, None));
+        let size = opposite.size();
+        let numbered = opposite.accepting.iter().enumerate();
+        let accepting: String = numbered
+            .filter(|(_, &accepting)| accepting)
+            .map(|(number, _)| format!(" {}", number))
+            .collect();
+        println!(
+            "{}'s opposite: number 0, states {}, arrows {}, accepting{}",
+            name, size.states, size.arrows, accepting
+        );
+        for (from, event, to) in opposite.arrows {
+            println!("{} {} {}", from, event, to);
+        }
+    }
+    let tables = Tables::close(&named("C"), None, None);
+    let (sets, profiles) = (tables.sets.entries.len(), tables.profiles.entries.len());
+    let size = Opposite::build(&tables).size();
+    let rooms = [
+        ("just enough room", [16, 16, 16], 6),
+        ("one place too few for where arrows start", [15, 16, 16], 6),
+        ("one place too few for events", [16, 15, 16], 6),
+        ("one place too few for where arrows lead", [16, 16, 15], 6),
+        ("one place too few for flags", [16, 16, 16], 5),
+    ];
+    for (what, arrow_rooms, state_room) in rooms {
+        let fits = arrow_rooms.iter().all(|&room| size.arrows <= room) && size.states <= state_room;
+        let (number, states, arrows) = match fits {
+            true => (0, size.states, size.arrows),
+            false => (7, 0, 0),
+        };
+        println!(
+            "C's opposite with {}: number {}, sets {}, profiles {}, states {}, arrows {}",
+            what, number, sets, profiles, states, arrows
+        );
     }
 }

@@ -8,6 +8,7 @@ mod file;
 mod machine;
 mod model;
 mod opposite;
+mod opposites;
 mod paths;
 mod profile;
 mod program;

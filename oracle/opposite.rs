@@ -5,7 +5,7 @@ use crate::profile::Profile;
 use crate::tables::Tables;
 use std::collections::HashMap;
 
-const LIMIT: usize = 65_535;
+pub const LIMIT: usize = 65_535;
 
 #[derive(Clone, Copy, Debug, PartialEq)]
 pub struct Size {

@@ -3,6 +3,7 @@
 
 use crate::course::{accepts, Course};
 use crate::model::{bit, hand_worked, named, own_models, Model, Verdict};
+use crate::opposites::{at_the_limit, near_the_limits, of_every_size, refused_runs, runs, Run};
 use crate::random::Random;
 use crate::tables::{Entry, Tables};
 use std::collections::HashSet;
@@ -17,13 +18,15 @@ struct Case {
     asked: Asked,
 }
 
-/// What is asked of a stored model: all runs, one with memory enough, one with slices longer than 16 bits can count, or judging courses.
+/// What is asked of a stored model: all runs, one with memory enough, one with slices longer than 16 bits can count, judging courses, or a run
+/// of the opposite.
 #[derive(PartialEq)]
 enum Asked {
     All,
     Once,
     Long,
     Courses(Vec<Course>),
+    Opposite(Run),
 }
 
 /// Which call is run.
@@ -87,6 +90,10 @@ fn stored(case: &Case) -> Vec<u8> {
                 bytes.extend(u.iter().chain(v));
             }
         }
+        Asked::Opposite(run) => {
+            bytes.push(4);
+            bytes.extend(run.stored());
+        }
     }
     bytes
 }
@@ -107,6 +114,7 @@ fn assert_wide(cases: &[Case]) {
     assert!(some(&|seen| seen.verdict == 2
         && seen.sets == 256
         && seen.profiles > 2_000));
+    assert_opposites(cases);
     let mut judgements = HashSet::new();
     for case in cases {
         if let Asked::Courses(courses) = &case.asked {
@@ -126,13 +134,44 @@ fn assert_wide(cases: &[Case]) {
     }
 }
 
-/// The same model many times, each to be closed once, and the line that the library must print for each.
-pub fn repeated(model: &Model, times: usize) -> (Vec<u8>, String) {
+/// Opposites with one state, with thousands, with as many arrows as the limit and one more, and refused by every number that can come.
+fn assert_opposites(cases: &[Case]) {
+    let mut told = HashSet::new();
+    for case in cases {
+        if let Asked::Opposite(run) = &case.asked {
+            let line = &run.lines(&case.model, refusal(case))[0];
+            let words = line.split(' ').map(|word| word.parse().unwrap_or(0));
+            told.insert(words.take(5).collect::<Vec<u64>>());
+        }
+    }
+    let some = |test: &dyn Fn(&[u64]) -> bool| told.iter().any(|told| test(told));
+    for number in [0, 1, 2, 3, 4, 5, 7] {
+        assert!(some(&|told| told[0] == number));
+    }
+    assert!(some(&|told| told[0] == 0 && told[3] == 1));
+    assert!(some(&|told| told[3] > 10_000));
+    assert!(some(&|told| told[4] == 65_535));
+    assert!(some(&|told| told[1] == 256
+        && told[2] > 2_000
+        && told[4] > 30_000));
+}
+
+/// A model that is to be closed once, as it is stored, and the line that the library must print for it.
+pub fn closed_once(model: &Model) -> (Vec<u8>, String) {
+    stored_once(model, Asked::Once)
+}
+
+/// The same for a run of the opposite that prints one line.
+pub fn opposed_once(model: &Model, run: Run) -> (Vec<u8>, String) {
+    stored_once(model, Asked::Opposite(run))
+}
+
+fn stored_once(model: &Model, asked: Asked) -> (Vec<u8>, String) {
     let case = Case {
-        asked: Asked::Once,
+        asked,
         ..plain(model.clone())
     };
-    (stored(&case).repeat(times), lines(&case)[0].clone())
+    (stored(&case), lines(&case).join("\n"))
 }
 
 /// The lent memory, filled before each run.
@@ -171,7 +210,7 @@ impl Memory {
     }
 }
 
-fn noise(tone: u64, place: u64, width: u32) -> u64 {
+pub fn noise(tone: u64, place: u64, width: u32) -> u64 {
     let sixteen = (place * 40_503 + tone * 30_011) & 0xFFFF;
     match width {
         8 => sixteen & 0xFF,
@@ -262,12 +301,12 @@ fn refusal(case: &Case) -> u8 {
 }
 
 /// Sixteen bits go into the sum.
-fn mix_part(sum: u64, x: u64) -> u64 {
+pub fn mix_part(sum: u64, x: u64) -> u64 {
     (sum * 65_599 + (x & 0xFFFF)) % 4_294_967_291
 }
 
 /// Sixteen bits at a time, the highest first.
-fn mix(sum: u64, x: u64) -> u64 {
+pub fn mix(sum: u64, x: u64) -> u64 {
     let parts = [x >> 48, x >> 32, x >> 16, x];
     parts.into_iter().fold(sum, mix_part)
 }
@@ -275,6 +314,7 @@ fn mix(sum: u64, x: u64) -> u64 {
 fn lines(case: &Case) -> Vec<String> {
     match &case.asked {
         Asked::Courses(courses) => vec![judged_line(case, courses)],
+        Asked::Opposite(run) => run.lines(&case.model, refusal(case)),
         Asked::Once => vec![run(case, Call::Close, WHOLE, WHOLE, 1).line()],
         Asked::Long => [Call::Close, Call::Verdict]
             .map(|call| run(case, call, [LONGEST; SLICES], [LONGEST; SLICES], 6).line())
@@ -405,6 +445,34 @@ fn cases() -> Vec<Case> {
         }
     }
     cases.extend(courses());
+    cases.extend(opposites());
+    cases
+}
+
+/// The opposites of the small models, of random ones of every size, of some at the limits, and of models that are refused.
+fn opposites() -> Vec<Case> {
+    let mut random = Random::new(7);
+    let small = hand_worked().into_iter().map(|row| row.model);
+    let mut models: Vec<Model> = small.chain(own_models()).collect();
+    models.extend((0..40).map(|_| random.model()));
+    models.extend(of_every_size(&mut random));
+    models.push(near_the_limits());
+    models.extend(at_the_limit());
+    let mut cases = Vec::new();
+    for model in models {
+        cases.extend(runs(&model).into_iter().map(|run| Case {
+            asked: Asked::Opposite(run),
+            ..plain(model.clone())
+        }));
+    }
+    let refused = edges().into_iter().chain(named_missing());
+    for case in refused.filter(|case| refusal(case) != 0) {
+        cases.extend(refused_runs().into_iter().map(|run| Case {
+            asked: Asked::Opposite(run),
+            model: case.model.clone(),
+            ..case
+        }));
+    }
     cases
 }
 

@@ -1,9 +1,5 @@
--- a loop that fills flags
-pub mod Flags
 -- one course: its words read, and what is refused of it
 pub mod Judging
--- what an event is and does
-pub mod Lent
 -- lent slices, a table filled into them, and the two tables
 pub mod Slices
 pub mod Filling

@@ -13,12 +13,12 @@ use Rattle.laws.specs.Profiles.{profileFrom, profileOf, profileValue, profileTa
 use Rattle.laws.specs.Answers.{ProfileSlices, over, profileRoom, profileSlices}
 use Rattle.laws.proofs.Booleans.{inside}
 use Rattle.laws.proofs.Places.{place-below}
-use Rattle.cover.specs.Values as code
+use Rattle.profile.specs.Values as code
 use Rattle.cover.specs.Memory.{profileMemory, entriesIn, profilesIn, going, ProfilesLent, Fills}
 use Rattle.cover.specs.declared.table.Filled.{Filled}
-use Rattle.cover.specs.declared.profile.Profile as declared
-use Rattle.cover.specs.declared.profile.Before.{Before}
-use Rattle.cover.specs.declared.profile.Before.the-variants.{Nothing, Word}
+use Rattle.profile.specs.declared.Profile as declared
+use Rattle.profile.specs.declared.Before.{Before}
+use Rattle.profile.specs.declared.Before.the-variants.{Nothing, Word}
 use Rattle.cover.proofs.Slices.{column-again, column-at, column-length, column-same, column-set}
 use Rattle.cover.proofs.Slices.{entries-length, entries-at, entries-are}
 use Rattle.cover.proofs.Filling.{Layout}

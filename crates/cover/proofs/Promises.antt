@@ -19,20 +19,18 @@ use Rattle.model.specs.Asked.{asked}
 use Rattle.cover.specs.Memory.{Kept}
 use Rattle.cover.specs.Closing.{Closing, due}
 use Rattle.cover.specs.Verdicts.{told, tells, GivesVerdict, due as verdict-due}
-use Rattle.cover.specs.Editor.{inNumbers, Exports}
 use Rattle.cover.specs.Courses.{number, accepted, isSaid, JudgesCourse}
 use Rattle.cover.specs.declared.Closed.{Closed}
 use Rattle.model.specs.declared.Model.{Model}
 use Rattle.cover.specs.declared.answer.Answer.{Answer}
 use Rattle.cover.specs.declared.answer.Answer.the-variants.{Covered, Uncovered, Refused}
-use Rattle.cover.specs.declared.editor.CoverVerdict.{CoverVerdict}
 use Rattle.cover.specs.declared.course.Judgement.{Judgement}
 use Rattle.cover.specs.declared.course.Judgement.the-variants.{Accepted, Rejected, Refused as Unjudged}
 use Rattle.cover.proofs.SetTable as of-sets
 use Rattle.cover.proofs.ProfileTable as of-profiles
 
 -- writing within a slice leaves the rest of it
-written : (xs old : List ℕ) (count : ℕ) → length xs ≡ count → count ≤ length old → Kept count old (over xs old)
+pub written : (xs old : List ℕ) (count : ℕ) → length xs ≡ count → count ≤ length old → Kept count old (over xs old)
 written xs old count e l = record { as-long = over-length xs old (omega arith); past = λ i h. over-past xs old i (omega arith) }
 
 -- an answer is its three numbers
@@ -175,14 +173,6 @@ module _ {m : Model} {arrows : List ℕ} {S S′ : SetSlices} {T T′ : ProfileS
     pub words-kept : Kept (told answer .u + told answer .v) memory memory′
     unfolding wordMemory
     words-kept = rw (j .word-memory) (written _ memory _ words-long words-within)
-
-  -- THE EDITOR'S CALL has one result too
-  pub one-export : {result : CoverVerdict} → Exports m arrows S S′ T T′ memory memory′ result
-      → {S″ : SetSlices} {T″ : ProfileSlices} {memory″ : List ℕ} {other : CoverVerdict} → Exports m arrows S S″ T T″ memory memory″ other
-      → (result ≡ other) × (S′ ≡ S″) × (T′ ≡ T″) × (memory′ ≡ memory″)
-  one-export e f =
-      let (answer, sets, profiles, memory) = one-verdict (e .verdict) (f .verdict) in
-      (e .numbers ∙ ap inNumbers answer ∙ sym (f .numbers), sets, profiles, memory)
 
 -- a judgement is its number, whether it is said, and whether the course is accepted
 same-judgement : (a b : Judgement) → number a ≡ number b → isSaid a ≡ isSaid b → accepted a ≡ accepted b → a ≡ b

@@ -41,6 +41,14 @@ getD-some [] i d h = absurd (not-nothing h)
 getD-some (y ∷ xs) zero d h = inside h
 getD-some (y ∷ xs) (suc i) d h = getD-some xs i d h
 
+-- what is read place by place is a list where it is the list's element at each place
+pub read-are : {A : Type 0} (read : ℕ → A) (es : List A) (n : ℕ) → length es ≡ n
+    → ((i : ℕ) (e : A) → getElem? es i ≡ some e → read i ≡ e) → map read (counted 0 n) ≡ es
+read-are read es n h same =
+    same-lists (map read (counted 0 n)) es (simp (length-map, length-counted) (sym h))
+    (λ i x y p q.
+    inside (sym p ∙ map-at read (counted 0 n) i (counted-at 0 n i (omega (arith, place-below es i q)) ∙ ap some (zero-add i))) ∙ same i y q)
+
 -- A COLUMN of a table: f of each element, written to the beginning of a slice
 module _ {A : Type 0} (f : A → ℕ) where
   pub column-again : (ds es : List A) (old : List ℕ) → length ds ≤ length es → over (map f es) (over (map f ds) old) ≡ over (map f es) old
@@ -87,9 +95,8 @@ module _ {Value : Type 0} (value : ℕ → Value) (from event : List ℕ) where
   -- they are es where the slices have what es has at each place
   pub entries-are : (es : List (Entry Value)) (n : ℕ) → length es ≡ n → ((i : ℕ) (e : Entry Value) → getElem? es i ≡ some e → entryIn i ≡ e)
       → entriesIn value from event n ≡ es
-  entries-are es n h same =
-      same-lists (entriesIn value from event n) es (entries-length n ∙ sym h)
-      (λ i x y p q. inside (sym p ∙ entries-at n i (omega (arith, place-below es i q))) ∙ same i y q)
+  unfolding entriesIn
+  entries-are es n h same = read-are entryIn es n h same
 
 -- the first n places of the slices have the entries that all places have
 pub entries-part : {Value : Type 0} (here there : ℕ → Value) (from event : List ℕ) (n : ℕ) → ((i : ℕ) → i < n → here i ≡ there i)

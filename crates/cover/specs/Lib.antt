@@ -6,4 +6,3 @@ pub mod Pairs
 pub mod Closing
 pub mod Verdicts
 pub mod Courses
-pub mod Editor

@@ -9,18 +9,18 @@ ghost use Rattle.laws.specs.Refusals.{firstOf, courseChecks};
 ghost use Rattle.laws.specs.Profiles.{setOf, profileOf};
 ghost use Rattle.laws.specs.Repeats.{MarksLed, Repeats};
 ghost use Rattle.model.specs.Asked.{asked};
-ghost use Rattle.cover.specs.Values.{profile};
+ghost use Rattle.profile.specs.Values.{profile};
 ghost use Rattle.cover.specs.Courses.{Readable};
 use crate::events::after;
 use crate::events::profile_of;
-use crate::pairs::marks_round;
-use crate::profile::Profile;
-use crate::profile::image;
-use crate::profile::is_same;
-use crate::profile::join;
-use crate::profile::union;
 use model::Model;
 use model::refusal;
+use profile::Profile;
+use profile::image;
+use profile::is_same;
+use profile::join;
+use profile::marks_round;
+use profile::union;
 
 // The course is accepted or not, or the number of the refusal.
 pub enum Judgement {

@@ -5,11 +5,11 @@ ghost use Rattle.laws.specs.Model.{eight, machine};
 ghost use Rattle.laws.specs.Refusals.{Unrefused};
 ghost use Rattle.laws.specs.Profiles.{eventProfile, after as led};
 ghost use Rattle.model.specs.Asked.{asked};
-ghost use Rattle.cover.specs.Values.{profile};
-use crate::profile::Profile;
-use crate::profile::image;
-use crate::profile::of_event;
+ghost use Rattle.profile.specs.Values.{profile};
 use model::Model;
+use profile::Profile;
+use profile::image;
+use profile::of_event;
 
 // The profile of event a.
 pub fn profile_of(m: Model, arrows: &[u64], a: usize) -> Profile

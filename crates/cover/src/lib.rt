@@ -1,12 +1,9 @@
 // The check. Each public call takes any numbers and any lent slices, and says in its contract what it answers and what every lent slice
 // holds afterwards.
 mod answer;
-mod bits;
 mod course;
-mod editor;
 mod events;
 mod pairs;
-mod profile;
 mod profiles;
 mod sets;
 mod table;

@@ -8,16 +8,17 @@ ghost use Rattle.laws.specs.Profiles.{sameProfile, profileValue, profileTable};
 ghost use Rattle.laws.specs.Refusals.{Unrefused};
 ghost use Rattle.laws.specs.Answers.{profileRoom, profileSlices};
 ghost use Rattle.model.specs.Asked.{asked};
-ghost use Rattle.cover.specs.Values.{profile, before as beforeOf, FirstPlace};
+ghost use Rattle.profile.specs.Values.{profile, before as beforeOf};
+ghost use Rattle.cover.specs.Values.{FirstPlace};
 ghost use Rattle.cover.specs.Memory.{profileMemory, profilesIn, going, ProfilesLent, Fills};
 use crate::events::profile_of;
-use crate::profile::Before;
-use crate::profile::Profile;
-use crate::profile::next;
 use crate::table::Filled;
 use crate::table::NO_ENTRY;
-use crate::table::least;
 use model::Model;
+use model::least;
+use profile::Before;
+use profile::Profile;
+use profile::next;
 
 // The place of a profile among the first count; count where it is not there.
 fn find(arrows: &[u64], marks: &[u64], count: usize, x: Profile) -> usize

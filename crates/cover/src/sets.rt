@@ -16,8 +16,8 @@ use crate::events::after;
 use crate::table::Filled;
 use crate::table::NO_ENTRY;
 use crate::table::NO_EVENT;
-use crate::table::least;
 use model::Model;
+use model::least;
 
 // The place of a set among the first count masks; count where it is not there.
 fn find(masks: &[u8], count: usize, set: u8) -> usize

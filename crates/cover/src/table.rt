@@ -1,7 +1,4 @@
-// What both tables share: how far a table is filled, and the least of its slices.
-ghost use Prim.Native.Nat.{min};
-ghost use mathlib.Core.Path.{_≡_};
-
+// What both tables share: how far a table is filled, and what stands for no entry and no event.
 // How many entries stand there, and whether a new value came for which there was no room.
 pub struct Filled {
     pub count: usize,
@@ -12,10 +9,3 @@ pub struct Filled {
 pub const NO_ENTRY: u16 = 65535;
 
 pub const NO_EVENT: u8 = 255;
-
-// The smaller of two lengths.
-pub fn least(a: usize, b: usize) -> usize
-    ensures { λ r. ⌜ r ≡ min a b ⌝ }
-{
-    if a < b { a } else { b }
-}

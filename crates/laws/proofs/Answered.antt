@@ -5,8 +5,8 @@ use Prim.Native.Nat.{ℕ, zero, suc, _<_, _≤_}
 use native.Mathlib.Omega.{arith}
 use mathlib.Core.Path.{_≡_, refl, sym, ap, _∙_}
 use mathlib.Core.Bool.{Bool, true, false, _||_}
-use mathlib.Core.Logic.{_⊎_, ⊎-elim}
-use mathlib.Core.List.{List, [], _++_}
+use mathlib.Core.Logic.{_⊎_, _↔_, inl, inr, ⊎-elim}
+use mathlib.Core.List.{List, [], _∷_, _++_}
 use mathlib.Core.Option.{none, some}
 use lib.ListN.{length, take, length-take}
 use lib.Seq.{take-all}
@@ -15,11 +15,12 @@ use borrow.Author.Tests.{lt-ltb, le-ltb, ltb-true, ltb-false}
 use Rattle.laws.specs.Words.{Word}
 use Rattle.laws.specs.Model.{Kind, Machine, Model, machine}
 use Rattle.laws.specs.Tables.{Entry, Table, UpTo, noEntry, noEvent}
-use Rattle.laws.specs.Refusals.{firstOf, modelChecks, Unrefused}
+use Rattle.laws.specs.Refusals.{firstOf, fault, refuse, outside, maskBeyond, arrowsBeyond, modelChecks, Unrefused}
+use Rattle.laws.specs.Bits.{someOf}
 use Rattle.laws.specs.Profiles.{Profile, Verdict, covered, uncovered, RightVerdict, verdict, values}
 use Rattle.laws.specs.Profiles.{HoldsSets, HoldsProfiles, setTable, profileTable}
 use Rattle.laws.specs.Opposite.{written, blockProfiles, flags, stateCount, arrows, arrowCount, opposite, Opposed}
-use Rattle.laws.specs.Answers.{ClosingAnswer, closingAnswer, closingOf, uAndV, words, verdictFrom, verdictAnswer, oppositeAnswer}
+use Rattle.laws.specs.Answers.{ClosingAnswer, closingAnswer, closingOf, uAndV, words, verdictFrom, verdictAnswer, oppositeFrom, oppositeAnswer}
 use Rattle.laws.specs.Answers.{CourseAnswer}
 use Rattle.laws.proofs.Booleans.{or-left, or-right, same-test}
 use Rattle.laws.proofs.Tables.{up-to}
@@ -27,6 +28,7 @@ use Rattle.laws.proofs.Complete.{set-steps, profile-steps, sets-closing
 use Rattle.laws.proofs.Meaning.{machine-within}
 use Rattle.laws.proofs.Verdicts.{verdict-right}
 use Rattle.laws.proofs.Opposites.{opposed}
+use Rattle.laws.proofs.Counts.{states-counted, arrows-counted}
 use Rattle.laws.proofs.Unrefused.{unrefused}
 
 -- a table up to a room has no more entries than that
@@ -147,6 +149,29 @@ module _ (K : Kind) (m : Model) (a b : ℕ) where
       go zero false false f p q =
           rw (f, p, q, closingOf) (closing-0 f sets hs (ltb-false a (length sets) p) profiles hp (ltb-false b (length profiles) q))
 
+  -- its numbers are 0 to 5
+  model-numbers : firstOf (modelChecks K m) .number ≤ 3
+  unfolding modelChecks firstOf refuse fault
+  model-numbers =
+      go (outside (K .states) (m .n) || outside (K .events) (m .k)) (ltb (length (m .arrows)) (m .k))
+      (maskBeyond (m .n) (m .start) || maskBeyond (m .n) (m .home) || someOf (arrowsBeyond (K .states) (m .n)) (take (m .k) (m .arrows)))
+    where
+      go : (x y z : Bool) → firstOf (refuse 1 x ∷ refuse 2 y ∷ refuse 3 z ∷ []) .number ≤ 3
+      go true y z = omega arith
+      go false true z = omega arith
+      go false false true = omega arith
+      go false false false = omega arith
+
+  closing-numbers : C .number ≤ 5
+  unfolding closingAnswer
+  closing-numbers = go (firstOf (modelChecks K m) .number) (S .cut) (T .cut) refl refl refl
+    where
+      go : (n : ℕ) (s t : Bool) → firstOf (modelChecks K m) .number ≡ n → S .cut ≡ s → T .cut ≡ t → C .number ≤ 5
+      go (suc n) s t f p q = rw (f, closingAnswer) (omega (arith, model-numbers))
+      go zero true t f p q = rw (f, p, closingAnswer) (omega arith)
+      go zero false true f p q = rw (f, p, q, closingAnswer) (omega arith)
+      go zero false false f p q = rw (f, p, q, closingAnswer) (omega arith)
+
   -- whatever the number, no more is entered than there is room
   sets-fit : length (S .entries) ≤ a
   unfolding setTable
@@ -236,18 +261,18 @@ module _ (K : Kind) (m : Model) (a b : ℕ) where
     -- THE OPPOSITE. After a refusal of closing: its number and tables, and nothing of the opposite
     pub opposite-refused : (n : ℕ) → C .number ≡ suc n
         → oppositeAnswer K m a b s r ≡ record { number = suc n; sets = C .sets; profiles = C .profiles; flags = []; arrows = [] }
-    unfolding oppositeAnswer
-    opposite-refused n e = rw (e, oppositeAnswer)
+    unfolding oppositeAnswer oppositeFrom
+    opposite-refused n e = rw (e, oppositeFrom)
 
     module _ (closed : C .number ≡ 0) where
       -- 7 where the counted states or arrows exceed their room
       pub opposite-7 : (s < states) ⊎ (r < lines)
           → oppositeAnswer K m a b s r ≡ record { number = 7; sets = C .sets; profiles = C .profiles; flags = []; arrows = [] }
-      unfolding oppositeAnswer
+      unfolding oppositeAnswer oppositeFrom
       opposite-7 l =
           let over : (ltb s states || ltb r lines) ≡ true =
           ⊎-elim (λ t. or-left (ltb r lines) (lt-ltb s states t)) (λ t. or-right (ltb s states) (lt-ltb r lines t)) l in
-          rw (closed, over, oppositeAnswer)
+          rw (closed, over, oppositeFrom)
 
       -- 0 where they do not: the flags and the arrows
       pub opposite-0 : states ≤ s → lines ≤ r
@@ -258,23 +283,65 @@ module _ (K : Kind) (m : Model) (a b : ℕ) where
             flags = flags Ps ts bs;
             arrows = arrows W M (m .k) Ps ts bs;
           }
-      unfolding oppositeAnswer
-      opposite-0 l k = rw (closed, le-ltb s states l, le-ltb r lines k, oppositeAnswer)
+      unfolding oppositeAnswer oppositeFrom
+      opposite-0 l k = rw (closed, le-ltb s states l, le-ltb r lines k, oppositeFrom)
+
+    -- so 7 comes exactly where closing has no refusal and the counted states or arrows exceed their room
+    pub opposite-exactly-7 : (oppositeAnswer K m a b s r .number ≡ 7) ↔ ((C .number ≡ 0) × ((s < states) ⊎ (r < lines)))
+    unfolding oppositeAnswer oppositeFrom
+    opposite-exactly-7 = (only, (λ h. ap (λ d. d .number) (opposite-7 (h .0) (h .1))))
+      where
+        only : oppositeAnswer K m a b s r .number ≡ 7 → (C .number ≡ 0) × ((s < states) ⊎ (r < lines))
+        only h = go (C .number) (ltb s states) (ltb r lines) refl refl refl
+          where
+            go : (n : ℕ) (x y : Bool) → C .number ≡ n → ltb s states ≡ x → ltb r lines ≡ y → (C .number ≡ 0) × ((s < states) ⊎ (r < lines))
+            go (suc n) x y e f g = absurd (omega (arith, closing-numbers, rw (e, oppositeFrom) at h))
+            go zero true y e f g = (e, inl (ltb-true s states f))
+            go zero false true e f g = (e, inr (ltb-true r lines g))
+            go zero false false e f g = absurd (omega (arith, rw (e, f, g, oppositeFrom) at h))
+
+    -- with number 0 there are as many flags and arrows as document 01 counts
+    pub opposite-counts : oppositeAnswer K m a b s r .number ≡ 0
+        → (length (oppositeAnswer K m a b s r .flags) ≡ states) × (length (oppositeAnswer K m a b s r .arrows) ≡ lines)
+    unfolding oppositeAnswer oppositeFrom
+    opposite-counts h = go (C .number) (ltb s states || ltb r lines) refl refl
+      where
+        go : (n : ℕ) (l : Bool) → C .number ≡ n → (ltb s states || ltb r lines) ≡ l
+            → (length (oppositeAnswer K m a b s r .flags) ≡ states) × (length (oppositeAnswer K m a b s r .arrows) ≡ lines)
+        go (suc n) l e f = absurd (omega (arith, rw (e, oppositeFrom) at h))
+        go zero true e f = absurd (omega (arith, rw (e, f, oppositeFrom) at h))
+        go zero false e f = rw (e, f, oppositeFrom) (states-counted Ps ts bs, arrows-counted W M (m .k) Ps ts)
+
+    -- whatever the number, no more is written than there is room
+    pub opposite-within : (length (oppositeAnswer K m a b s r .flags) ≤ s) × (length (oppositeAnswer K m a b s r .arrows) ≤ r)
+    unfolding oppositeAnswer oppositeFrom
+    opposite-within = go (C .number) (ltb s states) (ltb r lines) refl refl refl
+      where
+        go : (n : ℕ) (x y : Bool) → C .number ≡ n → ltb s states ≡ x → ltb r lines ≡ y
+            → (length (oppositeAnswer K m a b s r .flags) ≤ s) × (length (oppositeAnswer K m a b s r .arrows) ≤ r)
+        go (suc n) x y e f g = rw (e, oppositeFrom) (omega arith, omega arith)
+        go zero true y e f g = rw (e, f, oppositeFrom) (omega arith, omega arith)
+        go zero false true e f g = rw (e, f, g, oppositeFrom) (omega arith, omega arith)
+        go zero false false e f g =
+            rw (e, f, g, oppositeFrom) (
+              omega (arith, states-counted Ps ts bs, ltb-false s states f),
+              omega (arith, arrows-counted W M (m .k) Ps ts, ltb-false r lines g),
+            )
 
     -- DEMAND 3: with number 0 of every course exactly one of the model and the machine read from its flags and arrows accepts
     pub opposite-answers : oppositeAnswer K m a b s r .number ≡ 0
         → Opposed M (written (oppositeAnswer K m a b s r .flags) (oppositeAnswer K m a b s r .arrows)) (m .k)
-    unfolding oppositeAnswer opposite
+    unfolding oppositeAnswer oppositeFrom opposite
     opposite-answers h = go (C .number) (ltb s states || ltb r lines) refl refl
       where
         go : (n : ℕ) (l : Bool) → C .number ≡ n → (ltb s states || ltb r lines) ≡ l
             → Opposed M (written (oppositeAnswer K m a b s r .flags) (oppositeAnswer K m a b s r .arrows)) (m .k)
-        go (suc n) l e f = absurd (omega (arith, rw (e, oppositeAnswer) at h))
-        go zero true e f = absurd (omega (arith, rw (e, f, oppositeAnswer) at h))
+        go (suc n) l e f = absurd (omega (arith, rw (e, oppositeFrom) at h))
+        go zero true e f = absurd (omega (arith, rw (e, f, oppositeFrom) at h))
         go zero false e f =
             let c = closing-whole e in
             let within = machine-within W m (c .model .n-most) in
-            rw (e, f, oppositeAnswer) (opposed W M (m .k) (C .sets) (C .profiles) (c .sets-hold) (c .profiles-hold) within)
+            rw (e, f, oppositeFrom) (opposed W M (m .k) (C .sets) (C .profiles) (c .sets-hold) (c .profiles-hold) within)
 
 -- ONE COURSE has one judgement
 pub one-judged : {K : Kind} {m : Model} {u v : Word} {n l : ℕ} {c d : Bool} → CourseAnswer K m u v n c → CourseAnswer K m u v l d

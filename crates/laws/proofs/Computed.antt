@@ -9,9 +9,9 @@ use Rattle.laws.specs.Repeats.{union, acceptedFrom}
 use Rattle.laws.specs.Opposite.{arrow, isArrow, earlier, sorted, written, rejectsNonEmpty, gate, inBlock, onto, blockProfiles, flags, stateCount, pairCount, fromSet, fromGate, fromState, fromBlock, arrows, secondCount, arrowCount, opposite}
 use Rattle.laws.specs.Refusals.{firstOf, fault, refuse, outside, maskBeyond, arrowsBeyond, modelChecks, wordChecks, courseChecks}
 use Rattle.laws.specs.File.{head, field, fileOf, eventOffset, byte, standAt, formed, value, masks, numberChecks, maskChecks, eventChecks, endChecks, frontChecks, fileChecks, modelRead, reading}
-use Rattle.laws.specs.Answers.{setRoom, profileRoom, stateRoom, arrowRoom, over, setSlices, profileSlices, oppositeSlices, closingAnswer, closingOf, uAndV, words, verdictFrom, verdictAnswer, oppositeAnswer, closingIn, verdictIn, oppositeIn, wordMemory, arrowSlice}
+use Rattle.laws.specs.Answers.{setRoom, profileRoom, stateRoom, arrowRoom, over, setSlices, profileSlices, oppositeSlices, closingAnswer, closingOf, uAndV, words, verdictFrom, verdictAnswer, oppositeFrom, oppositeAnswer, closingIn, verdictIn, oppositeIn, wordMemory, arrowSlice}
 use Rattle.laws.specs.HandWorked.{_⇒_, event, mask, A, B, C, D, E, F, G, H, Swap, Both, Homeless, Shuttle, rowOf, row, rows, ownRows}
 
 unfoldable pub computed : Unit {0}
-unfolding bit fromBits cell grid packedRow fromRows someBelow counted someOf everyOf keep total count gather placeOf eachBelow times power lettersBelow empty lower before homed isState leads machine stored enter byEvents byEntries begun made rebuilt wordOf sameProfile values leadsTo marked join image isFitting marksRound isRejecting rejectingWith firstRejecting verdict markedPath startSet after setFrom setOf eventProfile nextProfile profileFrom profileOf nextSet setValue profileValue setTable profileTable union acceptedFrom arrow isArrow earlier sorted written rejectsNonEmpty gate inBlock onto blockProfiles flags stateCount pairCount fromSet fromGate fromState fromBlock arrows secondCount arrowCount opposite firstOf fault refuse outside maskBeyond arrowsBeyond modelChecks wordChecks courseChecks head field fileOf eventOffset byte standAt formed value masks numberChecks maskChecks eventChecks endChecks frontChecks fileChecks modelRead reading setRoom profileRoom stateRoom arrowRoom over setSlices profileSlices oppositeSlices closingAnswer closingOf uAndV words verdictFrom verdictAnswer oppositeAnswer closingIn verdictIn oppositeIn wordMemory arrowSlice _⇒_ event mask A B C D E F G H Swap Both Homeless Shuttle rowOf row rows ownRows
+unfolding bit fromBits cell grid packedRow fromRows someBelow counted someOf everyOf keep total count gather placeOf eachBelow times power lettersBelow empty lower before homed isState leads machine stored enter byEvents byEntries begun made rebuilt wordOf sameProfile values leadsTo marked join image isFitting marksRound isRejecting rejectingWith firstRejecting verdict markedPath startSet after setFrom setOf eventProfile nextProfile profileFrom profileOf nextSet setValue profileValue setTable profileTable union acceptedFrom arrow isArrow earlier sorted written rejectsNonEmpty gate inBlock onto blockProfiles flags stateCount pairCount fromSet fromGate fromState fromBlock arrows secondCount arrowCount opposite firstOf fault refuse outside maskBeyond arrowsBeyond modelChecks wordChecks courseChecks head field fileOf eventOffset byte standAt formed value masks numberChecks maskChecks eventChecks endChecks frontChecks fileChecks modelRead reading setRoom profileRoom stateRoom arrowRoom over setSlices profileSlices oppositeSlices closingAnswer closingOf uAndV words verdictFrom verdictAnswer oppositeFrom oppositeAnswer closingIn verdictIn oppositeIn wordMemory arrowSlice _⇒_ event mask A B C D E F G H Swap Both Homeless Shuttle rowOf row rows ownRows
 computed = tt

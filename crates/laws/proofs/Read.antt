@@ -1,7 +1,7 @@
 -- Of the slice of arrows only the first k numbers are read: with k there, the machine of a model and what is refused of it depend on no
 -- other, and so does every answer.
 use Prim.Native.Nat.{ℕ, _<_, _≤_}
-use mathlib.Core.Path.{_≡_, refl, sym, ap, _∙_, subst, fun-ext}
+use mathlib.Core.Path.{_≡_, refl, sym, ap, ap₂, _∙_, subst, fun-ext}
 use mathlib.Core.Bool.{Bool, true, false, _&&_}
 use mathlib.Core.List.{List, _++_}
 use lib.ListN.{length, take, getD}
@@ -14,7 +14,7 @@ use Rattle.laws.specs.Model.{Kind, Model, isState, leads, machine, Accep
 use Rattle.laws.specs.Refusals.{firstOf, modelChecks, wordChecks, courseChecks}
 use Rattle.laws.specs.Tables.{Entry}
 use Rattle.laws.specs.Profiles.{Profile, HoldsSets, HoldsProfiles}
-use Rattle.laws.specs.Answers.{closingAnswer, closingOf, CourseAnswer}
+use Rattle.laws.specs.Answers.{closingAnswer, closingOf, oppositeFrom, oppositeAnswer, CourseAnswer}
 use Rattle.laws.proofs.Complete.{sets-closing, profiles-closing}
 use Rattle.laws.proofs.Answered.{closing-listed}
 
@@ -82,3 +82,9 @@ module _ (m : Model) (arrows : List ℕ) (same : take (m .k) (m .arrows) ≡ tak
         (closing-listed K (withArrows m arrows) a b
         (sets .complete) (subst (λ M. HoldsSets W M (m .k) (sets .complete)) (machine-same W) (sets .holds))
         (profiles .complete) (subst (λ M. HoldsProfiles W M (m .k) (profiles .complete)) (machine-same W) (profiles .holds)))
+
+    -- THE OPPOSITE is the same
+    pub opposite-numbers : (a b s r : ℕ) → oppositeAnswer K m a b s r ≡ oppositeAnswer K (withArrows m arrows) a b s r
+    unfolding oppositeAnswer
+    opposite-numbers a b s r =
+        ap₂ (λ M c. oppositeFrom (K .states) M (m .k) c s r) (machine-same (K .states)) (first-numbers a b)

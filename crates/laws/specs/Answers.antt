@@ -166,23 +166,25 @@ pub record OppositeAnswer : Type 0 where
   pub flags : List ℕ
   pub arrows : List Arrow
 
--- after closing without refusal, 7 if the counted states or arrows exceed their room
-unfoldable pub oppositeAnswer : Kind → Model → ℕ → ℕ → ℕ → ℕ → OppositeAnswer
-oppositeAnswer K m set-room profile-room state-room arrow-room =
-    let c : ClosingAnswer = closingAnswer K m set-room profile-room in
-    let W : ℕ = K .states in
-    let M : Machine ℕ = machine W m in
+-- the opposite's answer from that of closing, for a machine M over k events: its refusal; 7 where the counted states or arrows exceed their
+-- room; else 0 and the opposite
+unfoldable pub oppositeFrom : ℕ → Machine ℕ → ℕ → ClosingAnswer → ℕ → ℕ → OppositeAnswer
+oppositeFrom W M k c state-room arrow-room =
     let Ps : List ℕ = values (c .sets) in
     let ts : List Profile = values (c .profiles) in
     let bs : List Profile = blockProfiles W Ps ts in
     elim (c .number) [
       | suc n ↦ record { number = suc n; sets = c .sets; profiles = c .profiles; flags = []; arrows = [] }
       | zero ↦
-          elim (ltb state-room (stateCount Ps ts bs) || ltb arrow-room (arrowCount W M (m .k) Ps ts bs)) [
+          elim (ltb state-room (stateCount Ps ts bs) || ltb arrow-room (arrowCount W M k Ps ts bs)) [
             | true ↦ record { number = 7; sets = c .sets; profiles = c .profiles; flags = []; arrows = [] }
-            | false ↦ record { number = 0; sets = c .sets; profiles = c .profiles; flags = flags Ps ts bs; arrows = arrows W M (m .k) Ps ts bs }
+            | false ↦ record { number = 0; sets = c .sets; profiles = c .profiles; flags = flags Ps ts bs; arrows = arrows W M k Ps ts bs }
           ]
     ]
+
+unfoldable pub oppositeAnswer : Kind → Model → ℕ → ℕ → ℕ → ℕ → OppositeAnswer
+oppositeAnswer K m set-room profile-room state-room arrow-room =
+    oppositeFrom (K .states) (machine (K .states) m) (m .k) (closingAnswer K m set-room profile-room) state-room arrow-room
 
 -- THE CALLS THAT FILL TABLES, with their lent slices, the word memory as it is lent
 unfoldable pub closingIn : Kind → Model → SetSlices → ProfileSlices → ClosingAnswer

@@ -4,6 +4,7 @@ mod bounds;
 mod fields;
 mod file;
 
+ghost use Prim.Native.Nat.{min};
 ghost use mathlib.Core.Path.{_≡_};
 ghost use Rattle.laws.specs.Model.{eight};
 ghost use Rattle.laws.specs.Refusals.{firstOf, modelChecks};
@@ -29,6 +30,13 @@ impl Model {
     pub const SETS: usize = 256;
 
     pub const PROFILES: usize = 2048;
+}
+
+// The smaller of two numbers: a room is the least of its slices and the limit.
+pub fn least(a: usize, b: usize) -> usize
+    ensures { λ r. ⌜ r ≡ min a b ⌝ }
+{
+    if a < b { a } else { b }
 }
 
 // A model that was read, or the number of the refusal and the offset of its place in the file.

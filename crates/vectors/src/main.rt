@@ -1,15 +1,17 @@
 // Runs the stored models through the library: closing and the verdict, each with every slice in turn lent too short, just right and too
-// long, and with all of them of different lengths; and single courses. For each run the answer and all memory go into a sum. The file stdout
-// was written by the independent program.
+// long, and with all of them of different lengths; single courses; and opposites. For each run the answer and all memory go into a sum. The
+// file stdout was written by the independent program.
 ghost use Prim.Native.Nat.{_≤_};
 use cover::Judgement;
 use libc::STDIN_FILENO;
 use libc::STDOUT_FILENO;
 use model::Model;
 
+mod opposites;
 mod runs;
 mod sums;
 
+use opposites::show_opposite;
 use runs::Call;
 use runs::PROFILES;
 use runs::SETS;
@@ -28,12 +30,15 @@ const STORED: usize = 156;
 
 const MOST_ARROWS: usize = 17;
 
-// What is asked for: all runs, one with memory enough, one with slices longer than 16 bits can count, or the courses that follow.
+// What is asked for: all runs, one with memory enough, one with slices longer than 16 bits can count, the courses that follow, or the
+// opposite with the lengths that follow.
 const ONCE: u8 = 1;
 
 const LONG: u8 = 2;
 
 const COURSES: u8 = 3;
+
+const OPPOSITE: u8 = 4;
 
 // With more profiles the search takes long.
 const MANY: usize = 600;
@@ -41,7 +46,7 @@ const MANY: usize = 600;
 // A stored course: how many letters u and v have, at most so many each, and then the letters.
 const MOST_LETTERS: usize = 40;
 
-fn print(x: u64, end: u8) {
+pub fn print(x: u64, end: u8) {
     io::print_decimal(STDOUT_FILENO, x);
     let mark = [end];
     io::write_all(STDOUT_FILENO, &mark);
@@ -196,8 +201,13 @@ fn show_rooms(call: Call, m: Model, arrows: &[u64], from: usize, to: usize, seen
     show_different(call, m, arrows, seen.sets, seen.profiles, words);
 }
 
-// What is asked for: courses, or closing and the verdict with long slices, or closing with memory enough, and then both calls in full.
+// What is asked for: the opposite, or courses, or closing and the verdict with long slices, or closing with memory enough, and then both
+// calls in full.
 fn show(m: Model, arrows: &[u64], asked: u8) {
+    if asked == OPPOSITE {
+        show_opposite(m, arrows);
+        return;
+    }
     if asked == COURSES {
         show_courses(m, arrows);
         return;

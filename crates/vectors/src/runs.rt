@@ -107,13 +107,13 @@ fn mix_answer(seen: Seen) -> u64 {
     )
 }
 
-fn fill_sets(seed: u64, masks: &mut [u8], from: &mut [u16], event: &mut [u8]) {
+pub fn fill_sets(seed: u64, masks: &mut [u8], from: &mut [u16], event: &mut [u8]) {
     fill_bytes(masks, tone_of(seed, 0));
     fill_numbers(from, tone_of(seed, 1));
     fill_bytes(event, tone_of(seed, 2));
 }
 
-fn fill_profiles(
+pub fn fill_profiles(
     seed: u64,
     leads: &mut [u64],
     marks: &mut [u64],
@@ -142,11 +142,11 @@ fn fill_all(
     fill_bytes(words, tone_of(seed, 7));
 }
 
-fn mix_sets(start: u64, masks: &[u8], from: &[u16], event: &[u8]) -> u64 {
+pub fn mix_sets(start: u64, masks: &[u8], from: &[u16], event: &[u8]) -> u64 {
     mix_bytes(mix_numbers(mix_bytes(start, masks), from), event)
 }
 
-fn mix_profiles(start: u64, leads: &[u64], marks: &[u64], from: &[u16], event: &[u8]) -> u64 {
+pub fn mix_profiles(start: u64, leads: &[u64], marks: &[u64], from: &[u16], event: &[u8]) -> u64 {
     mix_bytes(
         mix_numbers(mix_words(mix_words(start, leads), marks), from),
         event,

@@ -7,7 +7,7 @@ pub fn wide(x: u8) -> u64
     x as u64
 }
 
-fn wider(x: u16) -> u64 {
+pub fn wider(x: u16) -> u64 {
     x as u64
 }
 

@@ -13,8 +13,8 @@ use Rattle.laws.specs.Repeats.{Repeats, acceptedFrom}
 use Rattle.laws.proofs.Booleans.{or-left}
 use Rattle.laws.proofs.Meaning.{machine-within}
 use Rattle.laws.proofs.Repeats.{word-led, accepted-from}
-use Rattle.cover.specs.Values.{plain}
-use Rattle.cover.proofs.Lent.{led-by-arrows}
+use Rattle.profile.specs.Values.{plain}
+use Rattle.profile.proofs.Lent.{led-by-arrows}
 use Rattle.cover.proofs.course.is_accepted.Statement.{statement}
 use Rattle.cover.proofs.course.is_accepted.Tie as tie
 

@@ -8,7 +8,7 @@ use borrow.Author.Needs.{needs}
 use Rattle.laws.specs.Model.{machine}
 use Rattle.laws.specs.Profiles.{profileFrom, profileOf}
 use Rattle.model.specs.Asked.{asked}
-use Rattle.cover.specs.Values.{profile}
+use Rattle.profile.specs.Values.{profile}
 use Rattle.cover.proofs.Judging.{some-letter, letter-below, profile-start, profile-turn, profile-end}
 use Rattle.cover.proofs.course.profile_of_word.Statement.{statement}
 use Rattle.cover.proofs.course.profile_of_word.Tie as tie

@@ -9,7 +9,7 @@ use Rattle.laws.specs.Profiles.{Profile, sameProfile, join}
 use Rattle.laws.specs.Repeats.{union, MarksLed, Repeats}
 use Rattle.laws.proofs.Joins.{same-equal}
 use Rattle.laws.proofs.Repeats.{Grown, grown-start, grown-turn, grown-end, union-grows}
-use Rattle.cover.specs.Values.{profile}
+use Rattle.profile.specs.Values.{profile}
 use Rattle.cover.proofs.course.repeated.Statement.{statement}
 use Rattle.cover.proofs.course.repeated.Tie as tie
 

@@ -1,7 +1,7 @@
 -- What `image` makes of the set and the lent number is the set after the event, since the model is not refused.
 use mathlib.Core.Path.{_∙_}
 use borrow.Author.Needs.{needs}
-use Rattle.cover.proofs.Lent.{set-after}
+use Rattle.profile.proofs.Lent.{set-after}
 use Rattle.cover.proofs.events.after.Statement.{statement}
 use Rattle.cover.proofs.events.after.Tie as tie
 

@@ -1,7 +1,7 @@
 -- What `of_event` makes of the lent number is the profile of the event, since the model is not refused.
 use mathlib.Core.Path.{_∙_}
 use borrow.Author.Needs.{needs}
-use Rattle.cover.proofs.Lent.{event-value}
+use Rattle.profile.proofs.Lent.{event-value}
 use Rattle.cover.proofs.events.profile_of.Statement.{statement}
 use Rattle.cover.proofs.events.profile_of.Tie as tie
 

@@ -8,7 +8,7 @@ use Rattle.laws.specs.Tables.{WordValue, byEvents}
 use Rattle.laws.specs.Profiles.{Profile, profileValue}
 use Rattle.laws.specs.Answers.{ProfileSlices, profileSlices}
 use Rattle.model.specs.Asked.{asked}
-use Rattle.cover.specs.Values.{before as beforeOf}
+use Rattle.profile.specs.Values.{before as beforeOf}
 use Rattle.cover.specs.Memory.{profileMemory, profilesIn, going}
 use Rattle.cover.proofs.Filling.{ByEvents, still-lent, events-begin, events-cut, events-next, events-done}
 use Rattle.cover.proofs.ProfileTable.{next-value, profileLayout, SameLengths}

@@ -9,7 +9,7 @@ use borrow.Author.Needs.{needs}
 use borrow.Author.Tests.{eq-eqb, ne-eqb}
 use lib.ListN.{getD}
 use Rattle.laws.specs.Profiles.{sameProfile}
-use Rattle.cover.specs.Values.{profile}
+use Rattle.profile.specs.Values.{profile}
 use Rattle.cover.proofs.profiles.find.Statement.{statement}
 use Rattle.cover.proofs.profiles.find.Tie as tie
 

@@ -1,0 +1,2 @@
+-- what follows from the contracts
+pub mod Promises

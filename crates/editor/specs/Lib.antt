@@ -1,0 +1,2 @@
+-- the contract of each call for C
+pub mod Editor

@@ -1,0 +1,253 @@
+-- Numbers written one behind the other to one slice: what was written and what is left to write are together all that is to be written.
+use Prim.Native.Nat.{ℕ, suc, _+_, _*_, _-_, _≤_, _<_}
+use native.Mathlib.Omega.{arith}
+use native.Mathlib.Nat.{add-zero}
+use native.Mathlib.Numerals.{add-one}
+use mathlib.Core.Path.{_≡_, refl, sym, ap, ap₂, _∙_}
+use mathlib.Core.Bool.{Bool, true, false, _||_, cond}
+use mathlib.Core.List.{List, [], _∷_, _++_, map, append-assoc, append-nil}
+use lib.ListN.{length, getD, drop, set, replicate, length-append, length-map, length-replicate}
+use lib.Dec.{eqb}
+use lib.Seq.{set-split, drop-drop}
+use borrow.Author.Tests.{ne-eqb}
+use Rattle.laws.specs.Bits.{someOf, count, total}
+use Rattle.laws.specs.Profiles.{Profile}
+use Rattle.laws.specs.Answers.{over}
+use Rattle.laws.specs.Opposite.{rejectsNonEmpty}
+use Rattle.opposite.specs.Memory.{putAt}
+use Rattle.opposite.specs.Tables.{profilesAt, hasBlock}
+use Rattle.opposite.specs.Drawing.{blockFlags, flagsOf}
+use Rattle.opposite.proofs.Rows.{next-left, none-left, profileAt, next-profile, no-profile, profiles-length}
+use Rattle.opposite.proofs.Paper.{block-flags-long}
+use Rattle.opposite.proofs.Writing.{put-nothing, put-length, put-both}
+
+-- one number set is that number written
+set-writes : (n : ℕ) (old : List ℕ) (x : ℕ) → n < length old → set old n x ≡ putAt n (x ∷ []) old
+unfolding putAt over
+set-writes n old x h = rw (set-split old n x h, drop-drop, add-one)
+
+-- ALL is to be written from place n on to the slice, which was base; now it is new, place is the next place, and rest is left to write
+pub record Numbers (n : ℕ) (all base new : List ℕ) (place : ℕ) (rest : List ℕ) : Type 0 where
+  pub done : List ℕ
+  pub together : done ++ rest ≡ all
+  pub slice : new ≡ putAt n done base
+  pub at : place ≡ n + length done
+  pub room : n + length all ≤ length base
+
+-- at first nothing is written
+begin : {n : ℕ} (all base : List ℕ) → n + length all ≤ length base → {place : ℕ} {rest : List ℕ} → place ≡ n → rest ≡ all
+    → Numbers n all base base place rest
+begin {n} all base h e r =
+    record { done = []; together = r; slice = sym (put-nothing n base); at = e ∙ sym (add-zero n); room = h }
+
+module _ {n : ℕ} {all base new : List ℕ} {place : ℕ} {rest : List ℕ} (w : Numbers n all base new place rest) where
+  -- what is written and what is left is as long as all
+  lengths : length (w .done) + length rest ≡ length all
+  lengths = sym (length-append (w .done) rest) ∙ ap {B = ℕ} length (w .together)
+
+  -- the slice keeps its length
+  pub keeps-length : length new ≡ length base
+  keeps-length = ap length (w .slice) ∙ put-length n base (w .done) (omega (arith, w .room, lengths))
+
+  -- there is room for what is left
+  room-left : place + length rest ≤ length new
+  room-left = omega (arith, w .at, w .room, lengths, keeps-length)
+
+  -- more was written, and less is left
+  write-next : (xs ys : List ℕ) → rest ≡ xs ++ ys → {newer : List ℕ} {behind : ℕ} → newer ≡ putAt place xs new → behind ≡ place + length xs
+      → Numbers n all base newer behind ys
+  write-next xs ys e p b =
+      record {
+        done = w .done ++ xs;
+        together = append-assoc (w .done) xs ys ∙ ap (λ (r : List ℕ). w .done ++ r) (sym e) ∙ w .together;
+        slice =
+            p ∙ ap₂ (λ m l. putAt m xs l) (w .at) (w .slice) ∙ put-both n base (w .done) xs (omega (arith, w .room, lengths));
+        at = omega (arith, b, w .at, length-append (w .done) xs);
+        room = w .room;
+      }
+
+  -- one number was set
+  set-next : (x : ℕ) (ys : List ℕ) → rest ≡ x ∷ ys → {behind : ℕ} → behind ≡ place + 1 → Numbers n all base (set new place x) behind ys
+  set-next x ys e b =
+      write-next (x ∷ []) ys e (set-writes place new x (omega (arith, room-left, ap {B = ℕ} length e))) b
+
+  -- at the end all is written
+  all-written : rest ≡ [] → new ≡ putAt n all base
+  all-written e =
+      let is-all : w .done ≡ all = sym (append-nil (w .done)) ∙ ap (λ (r : List ℕ). w .done ++ r) (sym e) ∙ w .together in
+      w .slice ∙ ap (λ xs. putAt n xs base) is-all
+
+-- THE FLAGS OF THE SETS
+abbrev pub setFlag : ℕ → ℕ
+setFlag P = cond (eqb P 0) 1 0
+
+-- those of the sets from number i on are left to write
+abbrev pub SetsLeft : List ℕ → List ℕ → List ℕ → ℕ → Type 0
+SetsLeft Ps base new i = Numbers 0 (map setFlag Ps) base new i (map setFlag (drop i Ps))
+
+-- at first all are
+pub sets-begin : (Ps base : List ℕ) → length Ps ≤ length base → SetsLeft Ps base base 0
+sets-begin Ps base h = begin (map setFlag Ps) base (rw length-map (omega arith)) refl refl
+
+module _ (Ps : List ℕ) {base new : List ℕ} {i : ℕ} (w : SetsLeft Ps base new i) where
+  -- the next is the empty set, or another
+  pub empty-next : i < length Ps → getD Ps i 0 ≡ 0 → SetsLeft Ps base (set new i 1) (i + 1)
+  empty-next h e = set-next w 1 (map setFlag (drop (i + 1) Ps)) (rw (next-left Ps i 0 h, e)) refl
+
+  pub other-next : i < length Ps → (getD Ps i 0 ≡ 0 → ⊥) → SetsLeft Ps base (set new i 0) (i + 1)
+  other-next h n = set-next w 0 (map setFlag (drop (i + 1) Ps)) (rw (next-left Ps i 0 h, ne-eqb (getD Ps i 0) 0 n)) refl
+
+  -- at the end all flags of the sets are written
+  pub sets-done : length Ps ≤ i → new ≡ over (flagsOf Ps 0 0) base
+  unfolding flagsOf blockFlags putAt
+  sets-done h = all-written w (rw (none-left Ps i h)) ∙ ap (λ xs. over xs base) (sym (append-nil (map setFlag Ps)))
+
+-- THE FLAGS OF A BLOCK: 1 was set at place n, and of the m zeros behind it those from number i on are left to write
+abbrev pub StatesLeft : ℕ → ℕ → List ℕ → List ℕ → ℕ → Type 0
+StatesLeft m n base new i = Numbers (n + 1) (replicate m 0) base new (n + 1 + i) (replicate (m - i) 0)
+
+-- at first all are
+pub states-begin : (m n : ℕ) (base : List ℕ) → n + 1 + m ≤ length base → StatesLeft m n base base 0
+states-begin m n base h =
+    let all-left : m - 0 ≡ m = omega arith in
+    begin (replicate m 0) base (rw length-replicate h) (add-zero (n + 1)) (ap (λ d. replicate d 0) all-left)
+
+module _ (m n : ℕ) {base new : List ℕ} {i : ℕ} (w : StatesLeft m n base new i) where
+  -- the next zero is written
+  pub states-next : i < m → StatesLeft m n base (set new (n + 1 + i) 0) (i + 1)
+  states-next h = set-next w 0 (replicate (m - (i + 1)) 0) (ap (λ d. replicate d 0) more) (omega arith)
+    where
+      more : m - i ≡ suc (m - (i + 1))
+      more = omega arith
+
+  -- at the end the gate's and all zeros are written
+  pub states-done : m ≤ i → (lent : List ℕ) → base ≡ set lent n 1 → n < length lent → new ≡ putAt n (1 ∷ replicate m 0) lent
+  states-done h lent e l =
+      all-written w (ap (λ d. replicate d 0) none)
+      ∙ ap (λ xs. putAt (n + 1) (replicate m 0) xs) (e ∙ set-writes n lent 1 l)
+      ∙ put-both n lent (1 ∷ []) (replicate m 0) (omega arith)
+    where
+      none : m - i ≡ 0
+      none = omega arith
+
+-- THE FLAGS OF THE BLOCKS: h blocks of m profiles stand behind s sets; those from number b on are left to write
+abbrev pub BlocksLeft : ℕ → ℕ → ℕ → List ℕ → List ℕ → ℕ → ℕ → Type 0
+BlocksLeft m h s base new n b = Numbers s (blockFlags m h) base new n (blockFlags m (h - b))
+
+-- at first all are
+pub blocks-begin : (m h s : ℕ) (lent : List ℕ) {base : List ℕ} → s + h * (m + 1) ≤ length lent → length base ≡ length lent
+    → BlocksLeft m h s base base s 0
+blocks-begin m h s lent {base} l e =
+    let all-left : h - 0 ≡ h = omega arith in
+    begin (blockFlags m h) base (omega (arith, block-flags-long m h)) refl (ap (λ d. blockFlags m d) all-left)
+
+module _ (m h s : ℕ) {base new : List ℕ} {n b : ℕ} (w : BlocksLeft m h s base new n b) (l : b < h) where
+  -- what is left is a block, and what is left behind it
+  next-block : blockFlags m (h - b) ≡ (1 ∷ replicate m 0) ++ blockFlags m (h - (b + 1))
+  unfolding blockFlags
+  next-block = ap (λ d. blockFlags m d) more
+    where
+      more : h - b ≡ suc (h - (b + 1))
+      more = omega arith
+
+  -- there is room for it
+  pub block-room : n + 1 + m ≤ length new
+  block-room =
+      omega (
+        arith,
+        room-left w,
+        ap {B = ℕ} length next-block,
+        length-replicate {A = ℕ} m 0,
+        length-append (1 ∷ replicate m 0) (blockFlags m (h - (b + 1))),
+      )
+
+  -- it is written
+  pub blocks-next : {newer : List ℕ} → newer ≡ putAt n (1 ∷ replicate m 0) new → BlocksLeft m h s base newer (n + (m + 1)) (b + 1)
+  blocks-next e =
+      write-next w (1 ∷ replicate m 0) (blockFlags m (h - (b + 1))) next-block e (omega (arith, length-replicate {A = ℕ} m 0))
+
+-- at the end all flags are written, those of the sets before
+pub blocks-done : (Ps : List ℕ) (m h : ℕ) (lent : List ℕ) {base new : List ℕ} {n b : ℕ} → BlocksLeft m h (length Ps) base new n b → h ≤ b
+    → base ≡ over (flagsOf Ps 0 0) lent → length Ps ≤ length lent → new ≡ over (flagsOf Ps m h) lent
+unfolding flagsOf blockFlags putAt
+blocks-done Ps m h lent {base} {new} {n} {b} w l e r =
+    let none : h - b ≡ 0 = omega arith in
+    let sets : List ℕ = map setFlag Ps in
+    let before : base ≡ putAt 0 sets lent = e ∙ ap (λ xs. over xs lent) (append-nil sets) in
+    let long : length Ps ≡ 0 + length sets = rw length-map (omega arith) in
+    all-written w (ap (λ d. blockFlags m d) none)
+    ∙ ap₂ (λ p xs. putAt p (blockFlags m h) xs) long before
+    ∙ put-both 0 lent sets (blockFlags m h) (omega arith)
+
+-- WHICH PROFILES HAVE A BLOCK
+module _ {A : Type 0} (f : A → Bool) where
+  -- a test that is counted 0 holds of no element
+  none-counted : (xs : List A) → count f xs ≡ 0 → someOf f xs ≡ false
+  unfolding count total someOf
+  none-counted [] h = refl
+  none-counted (x ∷ xs) h = go (f x) h (none-counted xs)
+    where
+      go : (b : Bool) → cond b 1 0 + count f xs ≡ 0 → (count f xs ≡ 0 → someOf f xs ≡ false) → (b || someOf f xs) ≡ false
+      go true h rest = absurd (omega arith)
+      go false h rest = rest (omega (arith, h))
+
+  -- and any other holds of some
+  some-counted : (xs : List A) → (count f xs ≡ 0 → ⊥) → someOf f xs ≡ true
+  unfolding count total someOf
+  some-counted [] h = absurd (h refl)
+  some-counted (x ∷ xs) h = go (f x) h (some-counted xs)
+    where
+      go : (b : Bool) → (cond b 1 0 + count f xs ≡ 0 → ⊥) → ((count f xs ≡ 0 → ⊥) → someOf f xs ≡ true) → (b || someOf f xs) ≡ true
+      go true h rest = refl
+      go false h rest = rest (λ e. h (omega (arith, e)))
+
+module _ (Ps : List ℕ) (t : Profile) {pairs : ℕ} (counted : pairs ≡ count (λ P. rejectsNonEmpty 8 P t) Ps) where
+  -- a profile has no block exactly if it rejects with 0 sets other than the empty one
+  pub no-pair-no-block : pairs ≡ 0 → hasBlock Ps t ≡ false
+  unfolding hasBlock
+  no-pair-no-block e = none-counted (λ P. rejectsNonEmpty 8 P t) Ps (sym counted ∙ e)
+
+  pub pair-has-block : (pairs ≡ 0 → ⊥) → hasBlock Ps t ≡ true
+  unfolding hasBlock
+  pair-has-block n = some-counted (λ P. rejectsNonEmpty 8 P t) Ps (λ e. n (counted ∙ e))
+
+-- 1 for a profile that has a block, 0 for another
+abbrev pub shownAs : List ℕ → Profile → ℕ
+shownAs Ps t = cond (hasBlock Ps t) 1 0
+
+-- those of the profiles from number j on are left to write
+abbrev pub ShownLeft : List ℕ → List ℕ → List ℕ → List ℕ → List ℕ → ℕ → Type 0
+ShownLeft Ps arrows marks base new j =
+    let ts : List Profile = profilesAt arrows marks in
+    Numbers 0 (map (shownAs Ps) ts) base new j (map (shownAs Ps) (drop j ts))
+
+module _ (Ps arrows marks : List ℕ) (same : length marks ≡ length arrows) where
+  abbrev ts : List Profile
+  ts = profilesAt arrows marks
+
+  -- at first all are
+  pub shown-begin : (base : List ℕ) → length base ≡ length arrows → ShownLeft Ps arrows marks base base 0
+  shown-begin base h = begin (map (shownAs Ps) ts) base (rw length-map (omega (arith, profiles-length arrows marks same))) refl refl
+
+  module _ {base new : List ℕ} {j : ℕ} (w : ShownLeft Ps arrows marks base new j) where
+    -- the next has no block, or has one
+    pub lacks-next : j < length arrows → {pairs : ℕ} → pairs ≡ count (λ P. rejectsNonEmpty 8 P (profileAt arrows marks j)) Ps
+        → pairs ≡ 0 → ShownLeft Ps arrows marks base (set new j 0) (j + 1)
+    lacks-next h counted e =
+        set-next w 0 (map (shownAs Ps) (drop (j + 1) ts))
+        (rw (next-profile arrows marks j same h, no-pair-no-block Ps (profileAt arrows marks j) counted e)) refl
+
+    pub has-next : j < length arrows → {pairs : ℕ} → pairs ≡ count (λ P. rejectsNonEmpty 8 P (profileAt arrows marks j)) Ps
+        → (pairs ≡ 0 → ⊥) → ShownLeft Ps arrows marks base (set new j 1) (j + 1)
+    has-next h counted n =
+        set-next w 1 (map (shownAs Ps) (drop (j + 1) ts))
+        (rw (next-profile arrows marks j same h, pair-has-block Ps (profileAt arrows marks j) counted n)) refl
+
+    -- at the end they fill the slice
+    pub shown-done : length arrows ≤ j → length base ≡ length arrows → new ≡ map (shownAs Ps) ts
+    unfolding putAt over
+    shown-done h l =
+        let all : List ℕ = map (shownAs Ps) ts in
+        let long : length all ≡ length arrows = length-map ts (shownAs Ps) ∙ profiles-length arrows marks same in
+        let behind : drop (length all) base ≡ [] = none-left base (length all) (omega arith) in
+        all-written w (rw (no-profile arrows marks j same h)) ∙ ap (λ (r : List ℕ). all ++ r) behind ∙ append-nil all

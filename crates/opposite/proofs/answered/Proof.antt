@@ -1,0 +1,16 @@
+-- The branches are the two cases of what was drawn.
+use borrow.Author.Needs.{needs}
+use Rattle.opposite.specs.Opposites.{answerOf}
+use Rattle.opposite.proofs.answered.Statement.{statement}
+use Rattle.opposite.proofs.answered.Tie as tie
+
+returns : tie.Need-returns
+unfolding answerOf
+returns c = rw (c .if1 .taken, answerOf)
+
+returns-2 : tie.Need-returns-2
+unfolding answerOf
+returns-2 c = rw (c .if1 .left, answerOf)
+
+pub answered-spec : {M : Type 1} → statement M
+answered-spec = tie.close (tie.spec returns returns-2)

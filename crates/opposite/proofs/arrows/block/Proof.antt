@@ -1,0 +1,136 @@
+-- The gate's arrows are written, and then those of one state each turn. The loop keeps that those of the states from number i on are left
+-- to write.
+use Prim.Native.Nat.{_+_, _≤_, _-_}
+use native.Mathlib.Omega.{arith}
+use mathlib.Core.Path.{_∙_}
+use mathlib.Core.List.{List}
+use borrow.Author.Needs.{needs}
+use lib.ListN.{length}
+use Rattle.laws.specs.Model.{machine}
+use Rattle.laws.specs.Profiles.{Profile}
+use Rattle.model.specs.Asked.{asked}
+use Rattle.profile.specs.Values.{profile}
+use Rattle.opposite.specs.Tables.{profilesAt}
+use Rattle.opposite.specs.Memory.{arrowMemory}
+use Rattle.opposite.specs.Drawing.{statesFrom}
+use Rattle.opposite.proofs.Rows.{next-profile, no-profile}
+use Rattle.opposite.proofs.Writing.{Writing, begin, room-next, write-next, left-as, all-written, same-lengths}
+use Rattle.opposite.proofs.Leading.{first-room, second-room, both-written}
+use Rattle.opposite.proofs.Leading.{gate-first, statesLeft, states-first, states-next, states-last}
+use Rattle.opposite.proofs.arrows.block.Statement.{statement}
+use Rattle.opposite.proofs.arrows.block.Tie as tie
+
+abbrev Inv-loop : tie.InvT-loop
+Inv-loop m lent arrows marks gate t from₀ event₀ to₀ n place₀ i₀ from event to place i =
+    let ts : List Profile = profilesAt arrows marks in
+    (i ≤ length arrows)
+    × Writing place₀ (statesFrom (machine 8 (asked m lent)) (m .k) ts gate (profile t) (gate + 1) ts)
+    (arrowMemory from₀ event₀ to₀) (arrowMemory from event to) place (statesLeft (machine 8 (asked m lent)) (m .k) ts gate (profile t) i)
+
+abbrev μ-loop : tie.MeasureT-loop
+μ-loop m lent arrows marks gate t from₀ event₀ to₀ n place₀ i₀ from event to place i = length arrows - i
+
+leads-on-requires : tie.Need-leads-on-requires Inv-loop μ-loop
+leads-on-requires c κs =
+    let start = c .before .before .before .before .before .before .before .before .before in
+    (start .pre .0, (search needs, first-room (start .pre .1 .1) _ _ (gate-first _ _ _ _ _)))
+
+loop-holds : tie.Need-loop-holds Inv-loop μ-loop
+loop-holds c =
+    let called = c .before .before .before .before .before .before in
+    let start = called .before .before .before .before .before .before .before .before .before .before in (
+      omega arith,
+      left-as (begin (second-room (start .pre .1 .1) _ _ (gate-first _ _ _ _ _) (called .leads-on .ensures))) (states-first _ _ _ _ _),
+    )
+
+mul-t22 : tie.Need-mul-t22 Inv-loop μ-loop
+mul-t22 c = search needs
+
+shared-slice-read-t25 : tie.Need-shared-slice-read-t25 Inv-loop μ-loop
+shared-slice-read-t25 c = search needs
+
+mul-t26 : tie.Need-mul-t26 Inv-loop μ-loop
+mul-t26 c = search needs
+
+shared-slice-read-t28 : tie.Need-shared-slice-read-t28 Inv-loop μ-loop
+shared-slice-read-t28 c = search needs
+
+add-p : tie.Need-add-p Inv-loop μ-loop
+add-p c = search needs
+
+add-p-2 : tie.Need-add-p-2 Inv-loop μ-loop
+add-p-2 c = search needs
+
+leads-on-requires-2 : tie.Need-leads-on-requires-2 Inv-loop μ-loop
+leads-on-requires-2 c κs =
+    let turn = c .before .before .before .before .before in
+    let entered = turn .before .before .before .before .before .before .before .before in
+    let start = entered .before .before .before .before .before .before .before .before .before .before in (
+      start .pre .0,
+      (
+        search needs,
+        room-next (turn .before .loop .inv .1) _ _
+            (states-next _ _ _ _ _ _ _ (next-profile _ _ _ (start .pre .1 .0 .0) (turn .loop-test .taken))),
+      ),
+    )
+
+add-i : tie.Need-add-i Inv-loop μ-loop
+add-i c =
+    let turn = c .before .before .before .before .before .before .before .before .before .before .before .before in
+    let entered = turn .before .before .before .before .before .before .before .before in
+    let start = entered .before .before .before .before .before .before .before .before .before .before in
+    omega (arith, turn .loop-test .taken, start .pre .1 .0 .1)
+
+loop-less : tie.Need-loop-less Inv-loop μ-loop
+loop-less c = search needs
+
+loop-again : tie.Need-loop-again Inv-loop μ-loop
+loop-again c =
+    let called = c .before .before .before .before .before .before in
+    let turn = called .before .before .before .before .before .before in
+    let entered = turn .before .before .before .before .before .before .before .before in
+    let start = entered .before .before .before .before .before .before .before .before .before .before in (
+      search needs,
+      write-next (turn .before .loop .inv .1) _ _
+          (states-next _ _ _ _ _ _ _ (next-profile _ _ _ (start .pre .1 .0 .0) (turn .loop-test .taken)))
+          (called .leads-on2 .ensures),
+    )
+
+same-length : tie.Need-same-length Inv-loop μ-loop
+same-length c = same-lengths (c .before .loop .inv .1) .from ∙ c .before .before .before .before .before .before .before .from .given
+
+same-length-2 : tie.Need-same-length-2 Inv-loop μ-loop
+same-length-2 c = same-lengths (c .before .loop .inv .1) .event ∙ c .before .before .before .before .before .event .given
+
+same-length-3 : tie.Need-same-length-3 Inv-loop μ-loop
+same-length-3 c = same-lengths (c .before .loop .inv .1) .to ∙ c .before .before .before .to .given
+
+returns : tie.Need-returns Inv-loop μ-loop
+returns c =
+    let called = c .before .before .before .before .before .before .before .before in
+    let start = called .before .before .before .before .before .before .before .before .before .before in
+    both-written (start .pre .1 .1) _ _ (gate-first _ _ _ _ _) (called .leads-on .ensures)
+    (all-written (c .before .loop .inv .1) (states-last _ _ _ _ _ _ (no-profile _ _ _ (start .pre .1 .0 .0) (c .loop-test .left))))
+
+pub block-spec : {M : Type 1} → statement M
+block-spec =
+    tie.close
+    (tie.spec
+    Inv-loop
+    μ-loop
+    leads-on-requires
+    loop-holds
+    mul-t22
+    shared-slice-read-t25
+    mul-t26
+    shared-slice-read-t28
+    add-p
+    add-p-2
+    leads-on-requires-2
+    add-i
+    loop-less
+    loop-again
+    same-length
+    same-length-2
+    same-length-3
+    returns)

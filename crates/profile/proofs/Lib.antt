@@ -1,0 +1,4 @@
+-- a loop that fills flags
+pub mod Flags
+-- what an event is and does
+pub mod Lent
