@@ -115,7 +115,7 @@ sorted-one true e = refl
 sorted-one false e = refl
 
 -- an element has its place in a list or behind it
-place-in : {A : Type 0} (f : A → Bool) (xs : List A) → placeOf f xs ≤ length xs
+pub place-in : {A : Type 0} (f : A → Bool) (xs : List A) → placeOf f xs ≤ length xs
 unfolding placeOf
 place-in f [] = omega arith
 place-in f (x ∷ xs) = go (f x) (place-in f xs)

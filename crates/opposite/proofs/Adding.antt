@@ -2,19 +2,20 @@
 use Prim.Native.Nat.{ℕ, _+_, _*_, _≤_, _<_}
 use native.Mathlib.Omega.{arith}
 use native.Mathlib.Nat.{suc-mul}
-use mathlib.Core.Path.{_≡_, refl, sym}
-use mathlib.Core.Bool.{Bool, true, false, not, _&&_, cond}
+use mathlib.Core.Path.{_≡_, refl, sym, _∙_}
+use mathlib.Core.Bool.{Bool, true, false, not, _&&_, _||_, cond}
 use mathlib.Core.Logic.{_⊎_, inl, ⊎-elim}
 use mathlib.Core.Option.{Option, none, some}
 use mathlib.Core.List.{List, [], _∷_}
 use lib.ListN.{length, drop}
 use lib.Dec.{eqb}
-use Rattle.laws.specs.Bits.{counted, total, count}
+use Rattle.laws.specs.Bits.{counted, someOf, total, count}
 use Rattle.laws.specs.Model.{Machine}
 use Rattle.laws.specs.Profiles.{Profile, sameProfile, image, isFitting, marksRound, isRejecting, nextProfile}
 use Rattle.laws.specs.Opposite.{rejectsNonEmpty, secondCount}
+use Rattle.laws.proofs.Booleans.{never}
 use Rattle.laws.proofs.Members.{length-counted}
-use Rattle.opposite.specs.Tables.{profilesAt, staysUnmarked, isIdempotent}
+use Rattle.opposite.specs.Tables.{profilesAt, hasBlock, staysUnmarked, isIdempotent}
 use Rattle.opposite.proofs.Rows.{profiles-length}
 
 -- a test beside one that holds, and beside one that does not
@@ -148,3 +149,39 @@ module _ (M : Machine ℕ) (k : ℕ) (t : Profile) where
     -- and they are few
     pub seconds-fit : {found i : ℕ} → Seconds found i → k ≤ 16 → length ts ≤ 2048 → found ≤ 32784
     seconds-fit so l h = omega (arith, so .left, few-seconds l h)
+
+-- WHICH PROFILES HAVE A BLOCK
+module _ {A : Type 0} (f : A → Bool) where
+  -- a test that is counted 0 holds of no element
+  counted-none : (xs : List A) → count f xs ≡ 0 → someOf f xs ≡ false
+  unfolding count total someOf
+  counted-none [] e = refl
+  counted-none (x ∷ xs) e = go (f x) (counted-none xs) e
+    where
+      go : (b : Bool) → (count f xs ≡ 0 → someOf f xs ≡ false) → cond b 1 0 + count f xs ≡ 0 → (b || someOf f xs) ≡ false
+      go true r e = absurd (omega arith)
+      go false r e = r (omega arith)
+
+  -- and one that holds of none is counted 0
+  pub none-counted : (xs : List A) → someOf f xs ≡ false → count f xs ≡ 0
+  unfolding count total someOf
+  none-counted [] e = refl
+  none-counted (x ∷ xs) e = go (f x) (none-counted xs) e
+    where
+      go : (b : Bool) → (someOf f xs ≡ false → count f xs ≡ 0) → (b || someOf f xs) ≡ false → cond b 1 0 + count f xs ≡ 0
+      go true r e = never (sym e)
+      go false r e = omega (arith, r e)
+
+module _ (Ps : List ℕ) (t : Profile) {pairs : ℕ} (counted : pairs ≡ count (λ P. rejectsNonEmpty 8 P t) Ps) where
+  -- a profile has no block exactly if it rejects with 0 sets other than the empty one
+  pub no-pair-no-block : pairs ≡ 0 → hasBlock Ps t ≡ false
+  unfolding hasBlock
+  no-pair-no-block e = counted-none (λ P. rejectsNonEmpty 8 P t) Ps (sym counted ∙ e)
+
+  pub pair-has-block : (pairs ≡ 0 → ⊥) → hasBlock Ps t ≡ true
+  unfolding hasBlock
+  pair-has-block n = go (hasBlock Ps t) refl
+    where
+      go : (b : Bool) → hasBlock Ps t ≡ b → b ≡ true
+      go true e = refl
+      go false e = absurd (n (counted ∙ none-counted (λ P. rejectsNonEmpty 8 P t) Ps e))

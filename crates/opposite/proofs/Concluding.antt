@@ -2,20 +2,20 @@
 -- the slices, where the complete tables stand. The machine that then stands in the slices is document 01's, and that one is opposed.
 use Prim.Native.Nat.{ℕ, zero, suc, _≤_, _<_}
 use native.Mathlib.Omega.{arith}
-use mathlib.Core.Path.{_≡_, refl, sym, ap, ap₂, _∙_, subst}
+use mathlib.Core.Path.{_≡_, refl, sym, ap, ap₂, _∙_}
 use mathlib.Core.Bool.{Bool, true, false, _&&_}
-use mathlib.Core.Logic.{_⊎_, _↔_, inl, inr}
+use mathlib.Core.Logic.{_⊎_, inl, inr}
 use mathlib.Core.List.{List, [], _∷_, map}
-use lib.ListN.{length, take, drop, length-take, length-map}
-use lib.Seq.{take-at, take-length, take-all, length-take-le}
+use lib.ListN.{length, take, length-take, length-map}
+use lib.Seq.{take-at, take-all}
 use lib.Dec.{eqb, leb}
 use borrow.Author.Tests.{ne-eqb, leb-true, leb-false}
 use Rattle.laws.specs.Model.{Machine, eight, machine}
 use Rattle.laws.specs.Refusals.{Unrefused}
 use Rattle.laws.specs.Profiles.{Profile, values}
-use Rattle.laws.specs.Opposite.{Arrow, arrow, blockProfiles, stateCount, arrowCount, flags, arrows, written, Opposed}
+use Rattle.laws.specs.Opposite.{Arrow, arrow, blockProfiles, stateCount, arrowCount, flags, arrows, written}
 use Rattle.laws.specs.Answers.{SetSlices, ProfileSlices, OppositeSlices, setRoom, profileRoom, stateRoom, arrowRoom, over, setSlices}
-use Rattle.laws.specs.Answers.{profileSlices, oppositeSlices, ClosingAnswer, closingIn, oppositeAnswer, oppositeIn}
+use Rattle.laws.specs.Answers.{profileSlices, oppositeSlices, ClosingAnswer, closingIn, oppositeIn}
 use Rattle.laws.proofs.Booleans.{never, and-left, and-right}
 use Rattle.laws.proofs.Counts.{states-counted, arrows-counted}
 use Rattle.laws.proofs.Over.{over-first}
@@ -35,7 +35,7 @@ use Rattle.opposite.specs.Drawing.{Draws}
 use Rattle.opposite.specs.Opposites.{told, tells, answerOf, due, statesOf, arrowsOf, WritesOpposite}
 use Rattle.opposite.specs.declared.counts.Counts.{Counts}
 use Rattle.opposite.specs.declared.Answer.{Answer}
-use Rattle.opposite.specs.declared.Answer.the-variants.{Written, Refused}
+use Rattle.opposite.specs.declared.Answer.the-variants.{Refused}
 
 -- THE MACHINE IN THE SLICES is what was written to them
 module _ (fs : List ℕ) (es : List Arrow) (O : OppositeSlices) where

@@ -1,7 +1,5 @@
 -- The arrows of one event from a set into the blocks: what is left to write once the profiles before number j are passed.
 use Prim.Native.Nat.{ℕ, _+_, _*_, _≤_, _<_}
-use native.Mathlib.Omega.{arith}
-use native.Mathlib.Nat.{suc-mul}
 use mathlib.Core.Path.{_≡_, sym, ap, _∙_}
 use mathlib.Core.Bool.{Bool, true, false, _&&_, cond}
 use mathlib.Core.List.{List, [], _∷_, _++_}
@@ -14,7 +12,7 @@ use Rattle.opposite.specs.Tables.{profilesAt, keepBy, isIdempotent, stay
 use Rattle.opposite.specs.Memory.{ArrowSlices, Room, Puts}
 use Rattle.opposite.specs.Drawing.{intoBlocks}
 use Rattle.opposite.proofs.Adding.{rejects-idempotent}
-use Rattle.opposite.proofs.Rows.{profileAt, profiles-length, keptFrom, next-kept, next-passed, none-kept}
+use Rattle.opposite.proofs.Rows.{profileAt, profiles-length, keptFrom, next-kept, next-fits, next-passed, none-kept}
 use Rattle.opposite.proofs.Writing.{Writing, begin, room-next, write-next, left-as, all-written}
 
 -- WHAT A TURN KEEPS: the blocks of the profiles from number j on, the first of them with this gate, fit, each of those profiles is its own
@@ -61,9 +59,7 @@ module _ (arrows marks shown : List ℕ) (same : length marks ≡ length arrows)
 
       -- its block fits, and so do those behind it
       pub block-fits : gate + (length arrows + 1) + length left * (length arrows + 1) ≤ 65535
-      block-fits =
-          let size : ℕ = length arrows + 1 in
-          omega (arith, w .fits, ap (λ (bs : List Profile). length bs * size) first, suc-mul (length left) size)
+      block-fits = next-fits shown arrows marks j same covers here kept gate (w .fits)
 
       -- what is left is its arrow, if it rejects with the set, and what is left behind it
       next-entry : (b : Bool) → staysUnmarked set t ≡ b → intoBlocks ts set i a e gate (keptFrom shown ts j)

@@ -2,15 +2,13 @@
 use Prim.Native.Nat.{ℕ, suc, _+_, _*_, _-_, _≤_, _<_}
 use native.Mathlib.Omega.{arith}
 use native.Mathlib.Nat.{add-zero}
-use native.Mathlib.Numerals.{add-one}
 use mathlib.Core.Path.{_≡_, refl, sym, ap, ap₂, _∙_}
-use mathlib.Core.Bool.{Bool, true, false, _||_, cond}
+use mathlib.Core.Bool.{cond}
 use mathlib.Core.List.{List, [], _∷_, _++_, map, append-assoc, append-nil}
 use lib.ListN.{length, getD, drop, set, replicate, length-append, length-map, length-replicate}
 use lib.Dec.{eqb}
-use lib.Seq.{set-split, drop-drop}
 use borrow.Author.Tests.{ne-eqb}
-use Rattle.laws.specs.Bits.{someOf, count, total}
+use Rattle.laws.specs.Bits.{count}
 use Rattle.laws.specs.Profiles.{Profile}
 use Rattle.laws.specs.Answers.{over}
 use Rattle.laws.specs.Opposite.{rejectsNonEmpty}
@@ -19,12 +17,8 @@ use Rattle.opposite.specs.Tables.{profilesAt, hasBlock}
 use Rattle.opposite.specs.Drawing.{blockFlags, flagsOf}
 use Rattle.opposite.proofs.Rows.{next-left, none-left, profileAt, next-profile, no-profile, profiles-length}
 use Rattle.opposite.proofs.Paper.{block-flags-long}
-use Rattle.opposite.proofs.Writing.{put-nothing, put-length, put-both}
-
--- one number set is that number written
-set-writes : (n : ℕ) (old : List ℕ) (x : ℕ) → n < length old → set old n x ≡ putAt n (x ∷ []) old
-unfolding putAt over
-set-writes n old x h = rw (set-split old n x h, drop-drop, add-one)
+use Rattle.opposite.proofs.Writing.{put-nothing, put-length, put-both, put-one}
+use Rattle.opposite.proofs.Adding.{no-pair-no-block, pair-has-block}
 
 -- ALL is to be written from place n on to the slice, which was base; now it is new, place is the next place, and rest is left to write
 pub record Numbers (n : ℕ) (all base new : List ℕ) (place : ℕ) (rest : List ℕ) : Type 0 where
@@ -69,7 +63,7 @@ module _ {n : ℕ} {all base new : List ℕ} {place : ℕ} {rest : List ℕ} (w 
   -- one number was set
   set-next : (x : ℕ) (ys : List ℕ) → rest ≡ x ∷ ys → {behind : ℕ} → behind ≡ place + 1 → Numbers n all base (set new place x) behind ys
   set-next x ys e b =
-      write-next (x ∷ []) ys e (set-writes place new x (omega (arith, room-left, ap {B = ℕ} length e))) b
+      write-next (x ∷ []) ys e (put-one place new x (omega (arith, room-left, ap {B = ℕ} length e))) b
 
   -- at the end all is written
   all-written : rest ≡ [] → new ≡ putAt n all base
@@ -124,7 +118,7 @@ module _ (m n : ℕ) {base new : List ℕ} {i : ℕ} (w : StatesLeft m n base ne
   pub states-done : m ≤ i → (lent : List ℕ) → base ≡ set lent n 1 → n < length lent → new ≡ putAt n (1 ∷ replicate m 0) lent
   states-done h lent e l =
       all-written w (ap (λ d. replicate d 0) none)
-      ∙ ap (λ xs. putAt (n + 1) (replicate m 0) xs) (e ∙ set-writes n lent 1 l)
+      ∙ ap (λ xs. putAt (n + 1) (replicate m 0) xs) (e ∙ put-one n lent 1 l)
       ∙ put-both n lent (1 ∷ []) (replicate m 0) (omega arith)
     where
       none : m - i ≡ 0
@@ -180,37 +174,6 @@ blocks-done Ps m h lent {base} {new} {n} {b} w l e r =
     ∙ put-both 0 lent sets (blockFlags m h) (omega arith)
 
 -- WHICH PROFILES HAVE A BLOCK
-module _ {A : Type 0} (f : A → Bool) where
-  -- a test that is counted 0 holds of no element
-  none-counted : (xs : List A) → count f xs ≡ 0 → someOf f xs ≡ false
-  unfolding count total someOf
-  none-counted [] h = refl
-  none-counted (x ∷ xs) h = go (f x) h (none-counted xs)
-    where
-      go : (b : Bool) → cond b 1 0 + count f xs ≡ 0 → (count f xs ≡ 0 → someOf f xs ≡ false) → (b || someOf f xs) ≡ false
-      go true h rest = absurd (omega arith)
-      go false h rest = rest (omega (arith, h))
-
-  -- and any other holds of some
-  some-counted : (xs : List A) → (count f xs ≡ 0 → ⊥) → someOf f xs ≡ true
-  unfolding count total someOf
-  some-counted [] h = absurd (h refl)
-  some-counted (x ∷ xs) h = go (f x) h (some-counted xs)
-    where
-      go : (b : Bool) → (cond b 1 0 + count f xs ≡ 0 → ⊥) → ((count f xs ≡ 0 → ⊥) → someOf f xs ≡ true) → (b || someOf f xs) ≡ true
-      go true h rest = refl
-      go false h rest = rest (λ e. h (omega (arith, e)))
-
-module _ (Ps : List ℕ) (t : Profile) {pairs : ℕ} (counted : pairs ≡ count (λ P. rejectsNonEmpty 8 P t) Ps) where
-  -- a profile has no block exactly if it rejects with 0 sets other than the empty one
-  pub no-pair-no-block : pairs ≡ 0 → hasBlock Ps t ≡ false
-  unfolding hasBlock
-  no-pair-no-block e = none-counted (λ P. rejectsNonEmpty 8 P t) Ps (sym counted ∙ e)
-
-  pub pair-has-block : (pairs ≡ 0 → ⊥) → hasBlock Ps t ≡ true
-  unfolding hasBlock
-  pair-has-block n = some-counted (λ P. rejectsNonEmpty 8 P t) Ps (λ e. n (counted ∙ e))
-
 -- 1 for a profile that has a block, 0 for another
 abbrev pub shownAs : List ℕ → Profile → ℕ
 shownAs Ps t = cond (hasBlock Ps t) 1 0

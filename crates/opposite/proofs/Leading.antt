@@ -1,7 +1,6 @@
 -- The arrows inside a block, as they are written: onto a profile, on each event, from each state, and block after block.
 use Prim.Native.Nat.{ℕ, suc, _+_, _*_, _≤_, _<_}
 use native.Mathlib.Omega.{arith}
-use native.Mathlib.Nat.{suc-mul}
 use mathlib.Core.Path.{_≡_, refl, sym, ap, _∙_}
 use mathlib.Core.Bool.{Bool, true, false}
 use mathlib.Core.Option.{Option, none, some}
@@ -12,6 +11,7 @@ use Rattle.laws.specs.Model.{Machine, Model, eight, machine}
 use Rattle.laws.specs.Profiles.{Profile, sameProfile, nextProfile, join}
 use Rattle.laws.specs.Refusals.{Unrefused}
 use Rattle.laws.specs.Opposite.{Arrow, arrow}
+use Rattle.laws.proofs.Sorted.{place-in}
 use Rattle.profile.specs.declared.Before.{Before}
 use Rattle.profile.specs.declared.Before.the-variants.{Nothing, Word}
 use Rattle.profile.specs.declared.Profile as declared
@@ -20,9 +20,8 @@ use Rattle.profile.proofs.Lent.{event-value}
 use Rattle.opposite.specs.Tables.{profilesAt, keepBy}
 use Rattle.opposite.specs.Memory.{ArrowSlices, Room, Puts}
 use Rattle.opposite.specs.Drawing.{ontoAt, leadsOn, statesFrom, blockAt, blocksFrom}
-use Rattle.opposite.proofs.Looking.{place-within}
 use Rattle.opposite.proofs.Events.{eachFrom, from-first, from-next, from-last}
-use Rattle.opposite.proofs.Rows.{profileAt, profiles-length, keptFrom, next-kept, next-passed, none-kept}
+use Rattle.opposite.proofs.Rows.{profileAt, profiles-length, keptFrom, next-kept, next-fits, next-passed, none-kept}
 use Rattle.opposite.proofs.Writing.{Writing, begin, room-next, write-next, left-as, all-written}
 
 -- TWO LISTS are all that is to be written
@@ -44,7 +43,7 @@ module _ {n : ℕ} {all : List Arrow} {base : ArrowSlices} (room : Room n all ba
 module _ (arrows marks : List ℕ) (y : Profile) {r : ℕ} (at : r ≡ placeOf (sameProfile y) (profilesAt arrows marks)) where
   -- the place of a profile is at most behind the last
   pub place-most : length marks ≡ length arrows → r ≤ length arrows
-  place-most same = omega (arith, at, place-within (sameProfile y) (profilesAt arrows marks), profiles-length arrows marks same)
+  place-most same = omega (arith, at, place-in (sameProfile y) (profilesAt arrows marks), profiles-length arrows marks same)
 
   module _ (gate : ℕ) (t : Profile) (p a : ℕ) {same : Bool} (is : same ≡ sameProfile y t) where
     -- where it is the profile of the block there is an arrow to the gate too
@@ -166,9 +165,7 @@ module _ (M : Machine ℕ) (k : ℕ) (arrows marks shown : List ℕ) where
 
       -- its block fits, and so do those behind it
       pub block-fits : gate + (length arrows + 1) + length left * (length arrows + 1) ≤ 65535
-      block-fits =
-          let size : ℕ = length arrows + 1 in
-          omega (arith, w .fits, ap (λ (bs : List Profile). length bs * size) first, suc-mul (length left) size)
+      block-fits = next-fits shown arrows marks j same covers here kept gate (w .fits)
 
       -- what is left is its block and what is left behind it
       next-block : blocksFrom M k ts gate (keptFrom shown ts j)

@@ -11,13 +11,13 @@ use Rattle.laws.specs.Model.{Machine, Model, eight, machine}
 use Rattle.laws.specs.Profiles.{Profile, sameProfile, image, eventProfile}
 use Rattle.laws.specs.Refusals.{Unrefused}
 use Rattle.laws.specs.Opposite.{Arrow, arrow}
+use Rattle.laws.proofs.Sorted.{place-in}
 use Rattle.profile.specs.Values.{plain, eventValue}
 use Rattle.profile.proofs.Lent.{event-value, set-after}
 use Rattle.opposite.specs.Tables.{profilesAt}
 use Rattle.opposite.specs.Memory.{ArrowSlices, Room, Puts}
 use Rattle.opposite.specs.Drawing.{intoBlocks, setOn, setsFrom}
 use Rattle.opposite.proofs.Rows.{next-left, none-left, profiles-length}
-use Rattle.opposite.proofs.Looking.{place-within}
 use Rattle.opposite.proofs.Events.{eachFrom, from-first, from-next, from-last}
 use Rattle.opposite.proofs.Writing.{Writing, begin, room-next, write-next, left-as, all-written}
 
@@ -25,7 +25,7 @@ use Rattle.opposite.proofs.Writing.{Writing, begin, room-next, write-ne
 pub profile-within : (arrows marks : List ℕ) → length marks ≡ length arrows → (x : Profile) {e : ℕ}
     → e ≡ placeOf (sameProfile x) (profilesAt arrows marks) → e ≤ length arrows
 profile-within arrows marks same x at =
-    omega (arith, at, place-within (sameProfile x) (profilesAt arrows marks), profiles-length arrows marks same)
+    omega (arith, at, place-in (sameProfile x) (profilesAt arrows marks), profiles-length arrows marks same)
 
 module _ (m : Model) (Ps : List ℕ) (ts bs : List Profile) where
   abbrev M : Machine ℕ
@@ -64,7 +64,7 @@ module _ (m : Model) (Ps : List ℕ) (ts bs : List Profile) where
 
       -- that place is at most the number of sets
       pub next-within : q ≤ length Ps
-      next-within = omega (arith, found, place-within (eqb led) Ps)
+      next-within = omega (arith, found, place-in (eqb led) Ps)
 
       -- there is room for the arrow to the next set
       pub next-room : Room place (arrow i a q ∷ []) new

@@ -1,22 +1,12 @@
 -- The place of the first element of which a test holds, by a look at one element after the other: the number of elements passed and the
 -- place among those that are left are together the place.
-use Prim.Native.Nat.{ℕ, suc, _+_, _≤_}
+use Prim.Native.Nat.{ℕ, suc, _+_}
 use native.Mathlib.Omega.{arith}
 use mathlib.Core.Path.{_≡_}
-use mathlib.Core.Bool.{Bool, true, false, cond}
+use mathlib.Core.Bool.{Bool, true, false}
 use mathlib.Core.List.{List, [], _∷_}
-use lib.ListN.{length, drop}
+use lib.ListN.{drop}
 use Rattle.laws.specs.Bits.{placeOf}
-
--- a place is in the list or right behind it
-pub place-within : {A : Type 0} (f : A → Bool) (xs : List A) → placeOf f xs ≤ length xs
-unfolding placeOf
-place-within f [] = omega arith
-place-within f (x ∷ xs) = go (f x) (place-within f xs)
-  where
-    go : (b : Bool) → placeOf f xs ≤ length xs → cond b 0 (suc (placeOf f xs)) ≤ suc (length xs)
-    go true h = omega arith
-    go false h = omega arith
 
 module _ {A : Type 0} (f : A → Bool) (xs : List A) where
   -- i elements were passed

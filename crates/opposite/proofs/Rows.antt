@@ -1,11 +1,12 @@
 -- A loop through the profiles in two slices: what is left from number j on is profile number j and what is left from the next on.
-use Prim.Native.Nat.{ℕ, zero, suc, _+_, _≤_, _<_}
+use Prim.Native.Nat.{ℕ, zero, suc, _+_, _*_, _≤_, _<_}
 use native.Mathlib.Omega.{arith}
+use native.Mathlib.Nat.{suc-mul}
 use native.Mathlib.Numerals.{add-one}
-use mathlib.Core.Path.{_≡_, refl, sym, ap, _∙_}
+use mathlib.Core.Path.{_≡_, refl, ap}
 use mathlib.Core.List.{List, [], _∷_}
 use lib.ListN.{length, getD, drop}
-use lib.Seq.{drop-cons, drop-length, drop-nil}
+use lib.Seq.{drop-cons, drop-nil}
 use borrow.Author.Tests.{ne-eqb}
 use Rattle.laws.specs.Profiles.{Profile}
 use Rattle.opposite.specs.Tables.{profilesAt, keepBy}
@@ -58,6 +59,15 @@ module _ (shown arrows marks : List ℕ) (j : ℕ) (same : length marks ≡ leng
       → keptFrom shown (profilesAt arrows marks) j ≡ profileAt arrows marks j ∷ keptFrom shown (profilesAt arrows marks) (j + 1)
   unfolding keepBy
   next-kept e = rw (next-left shown j 0 here, next-profile arrows marks j same (omega arith), e)
+
+  -- where the blocks of those that are left fit, its own does, and those behind it
+  pub next-fits : getD shown j 0 ≡ 1 → (gate : ℕ)
+      → gate + length (keptFrom shown (profilesAt arrows marks) j) * (length arrows + 1) ≤ 65535
+      → gate + (length arrows + 1) + length (keptFrom shown (profilesAt arrows marks) (j + 1)) * (length arrows + 1) ≤ 65535
+  next-fits e gate fits =
+      let size : ℕ = length arrows + 1 in
+      let left : List Profile = keptFrom shown (profilesAt arrows marks) (j + 1) in
+      omega (arith, fits, ap (λ (bs : List Profile). length bs * size) (next-kept e), suc-mul (length left) size)
 
   -- and without it is not among them
   pub next-passed : (getD shown j 0 ≡ 1 → ⊥)

@@ -3,7 +3,7 @@ use Prim.Native.Nat.{ℕ, _+_, _*_, _≤_, _<_}
 use native.Mathlib.Omega.{arith}
 use native.Mathlib.Nat.{zero-mul, mul-zero, suc-mul, mul-add, mul-assoc, mul-le-mul-left, mul-le-mul-right, le-trans}
 use mathlib.Core.Path.{_≡_, refl, sym, ap, _∙_}
-use mathlib.Core.Bool.{Bool, true, false, _||_, cond, false≢true, _&&_, and-false}
+use mathlib.Core.Bool.{Bool, true, false, cond, _&&_, and-false}
 use mathlib.Core.Logic.{inl, inr}
 use mathlib.Core.List.{List, [], _∷_}
 use lib.ListN.{length, drop}
@@ -18,28 +18,10 @@ use Rattle.opposite.specs.Tables.{hasBlock, blockStates, blockArrows}
 use Rattle.opposite.specs.Drawing.{Counted}
 use Rattle.opposite.specs.declared.counts.Counts.{Counts}
 use Rattle.opposite.proofs.Adding.{Adding, add-begins, add-next, add-ends, total-most, few-seconds}
+use Rattle.opposite.proofs.Adding.{none-counted, no-pair-no-block, pair-has-block}
 use Rattle.opposite.proofs.Adding.{Counting, count-begins, count-next, count-ends, count-most}
 
 module _ {A : Type 0} (f : A → Bool) where
-  -- a test that holds of some element is not counted 0, and one that holds of none is
-  pub some-counted : (xs : List A) → count f xs ≡ 0 → someOf f xs ≡ false
-  unfolding count total someOf
-  some-counted [] e = refl
-  some-counted (x ∷ xs) e = go (f x) (some-counted xs) e
-    where
-      go : (b : Bool) → (count f xs ≡ 0 → someOf f xs ≡ false) → cond b 1 0 + count f xs ≡ 0 → (b || someOf f xs) ≡ false
-      go true r e = absurd (omega arith)
-      go false r e = r (omega arith)
-
-  pub none-counted : (xs : List A) → someOf f xs ≡ false → count f xs ≡ 0
-  unfolding count total someOf
-  none-counted [] e = refl
-  none-counted (x ∷ xs) e = go (f x) (none-counted xs) e
-    where
-      go : (b : Bool) → (someOf f xs ≡ false → count f xs ≡ 0) → (b || someOf f xs) ≡ false → cond b 1 0 + count f xs ≡ 0
-      go true r e = absurd (false≢true (sym e))
-      go false r e = omega (arith, r e)
-
   -- as many are kept as are counted
   kept-counted : (xs : List A) → length (keep f xs) ≡ count f xs
   unfolding keep count total
@@ -152,7 +134,7 @@ module _ (M : Machine ℕ) (k : ℕ) (Ps : List ℕ) (ts : List Profile) where
       pub size-passes : pairs ≡ 0 → Sized blocks states lines (j + 1)
       unfolding hasBlock blockStates blockArrows
       size-passes e =
-          let none : hasBlock Ps t ≡ false = some-counted (λ P. rejectsNonEmpty 8 P t) Ps (sym are ∙ e) in
+          let none : hasBlock Ps t ≡ false = no-pair-no-block Ps t are e in
           record {
             blocks-left = count-next (hasBlock Ps) ts (so .blocks-left) t next (sym none) (inr (refl, refl));
             states-left = add-next (blockStates Ps ts) ts (so .states-left) t next (rw none (omega arith));
@@ -164,16 +146,12 @@ module _ (M : Machine ℕ) (k : ℕ) (Ps : List ℕ) (ts : List Profile) where
           → Sized (blocks + 1) (states + size) (lines + (k * pairs + size * k) + seconds) (j + 1)
       unfolding hasBlock blockStates blockArrows
       size-grows n e f =
-          let has : hasBlock Ps t ≡ true = go (hasBlock Ps t) (none-counted (λ P. rejectsNonEmpty 8 P t) Ps) (λ z. n (are ∙ z)) in
+          let has : hasBlock Ps t ≡ true = pair-has-block Ps t are n in
           record {
             blocks-left = count-next (hasBlock Ps) ts (so .blocks-left) t next (sym has) (inl (refl, refl));
             states-left = add-next (blockStates Ps ts) ts (so .states-left) t next (rw (has, e));
             lines-left = add-next (blockArrows Ps ts M k) ts (so .lines-left) t next (rw (has, e, f, are) (omega arith));
           }
-        where
-          go : (b : Bool) {n : ℕ} → (b ≡ false → n ≡ 0) → (n ≡ 0 → ⊥) → b ≡ true
-          go true z n = refl
-          go false z n = absurd (n (z refl))
 
     -- with so few profiles, sets and events all stay small: a block has at most 2049 states, and at most 16·256 + 2049·16 + 32784 arrows
     pub size-room : k ≤ 16 → length ts ≤ 2048 → length Ps ≤ 256 → (blocks ≤ 2048) × (states ≤ 4196608) × (lines ≤ 142675968)

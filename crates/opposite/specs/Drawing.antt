@@ -1,22 +1,19 @@
 -- The opposite's flags and arrows by running state numbers, as its code writes them: the gate of a block is g, and the next block's
 -- gate is as many states behind it as a block has.
-use Prim.Native.Nat.{ℕ, zero, suc, _+_, _*_, _≤_}
+use Prim.Native.Nat.{ℕ, zero, suc, _+_, _≤_}
 use mathlib.Core.Path.{_≡_}
-use mathlib.Core.Bool.{Bool, true, false, cond, _&&_}
+use mathlib.Core.Bool.{true, false, cond, _&&_}
 use mathlib.Core.Option.{Option, none, some}
 use mathlib.Core.List.{List, [], _∷_, _++_, map}
 use lib.ListN.{length, replicate}
 use lib.Dec.{eqb, leb}
-use Rattle.laws.specs.Bits.{gather, placeOf, eachBelow, everyOf}
-use Rattle.laws.specs.Model.{Machine, Model, eight, machine}
+use Rattle.laws.specs.Bits.{placeOf, eachBelow}
+use Rattle.laws.specs.Model.{Machine}
 use Rattle.laws.specs.Profiles.{Profile, sameProfile, after, eventProfile, nextProfile}
-use Rattle.laws.specs.Refusals.{Unrefused}
 use Rattle.laws.specs.Opposite.{Arrow, arrow, rejectsNonEmpty, blockProfiles, stateCount, arrowCount, flags, arrows}
 use Rattle.laws.specs.Answers.{OppositeSlices, oppositeSlices, stateRoom, arrowRoom}
-use Rattle.opposite.specs.Tables.{keepBy, isIdempotent}
 use Rattle.opposite.specs.declared.counts.Counts.{Counts}
 
--- how many states a block has, and the arrows of m profiles' block
 module _ (ts : List Profile) where
   -- from state p on event a onto the profile y, in the block of t with gate g: to the gate too if y is t, and to the state of y
   unfoldable pub ontoAt : ℕ → Profile → ℕ → ℕ → Profile → List Arrow

@@ -1,7 +1,7 @@
 -- After closing each return is one of two cases: a refusal, or what is drawn from the first places of the slices, where closing left the
 -- complete tables.
 use native.Mathlib.Nat.{le-trans}
-use mathlib.Core.Path.{sym, _∙_, subst}
+use mathlib.Core.Path.{sym, subst}
 use lib.Seq.{length-take-le}
 use borrow.Author.Needs.{needs}
 use Rattle.cover.proofs.Verdicts.{sets-stand, profiles-stand}

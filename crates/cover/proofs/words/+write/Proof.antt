@@ -4,7 +4,7 @@ use Prim.Native.Nat.{ℕ, suc, _-_, _<_}
 use native.Mathlib.Omega.{arith}
 use mathlib.Core.Path.{_≡_, refl, sym, ap, _∙_}
 use mathlib.Core.List.{List, [], _∷_, _++_}
-use lib.ListN.{length, getD, take, drop, set, length-take, length-set, drop-of-length-le}
+use lib.ListN.{length, getD, drop, set, length-take, length-set, drop-of-length-le}
 use lib.Seq.{drop-cons, getD-set-same}
 use borrow.Author.Needs.{needs}
 use borrow.Fn.Kinds.{In}
