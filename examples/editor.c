@@ -169,6 +169,17 @@ static CoverOpposite oppose(const Model *m, size_t from_room, size_t event_room,
 static const uint16_t arrows_of_c[][3] = {{0, 0, 1}, {0, 0, 3}, {0, 1, 0}, {0, 1, 4}, {1, 0, 1}, {1, 1, 0}, {2, 0, 3}, {2, 1, 2},
                                           {2, 1, 4}, {3, 0, 3}, {3, 1, 5}, {4, 0, 3}, {4, 1, 2}, {4, 1, 4}, {5, 0, 3}, {5, 1, 5}};
 
+/* Something was written to the slices of the opposite past so many flags or arrows. */
+static int touched_opposite(size_t states, size_t arrows) {
+  for (size_t i = arrows; i < COVER_ARROWS; i++)
+    if (from[i] != UNTOUCHED * 257 || event[i] != UNTOUCHED || to[i] != UNTOUCHED * 257)
+      return 1;
+  for (size_t i = states; i < COVER_STATES; i++)
+    if (flags[i] != UNTOUCHED)
+      return 1;
+  return 0;
+}
+
 /* Prints the opposite of a model, its accepting states first, and says whether it has other counts than these, or anything is written past
  * them. */
 static int show_opposite(const Model *m, size_t states, size_t arrows) {
@@ -182,23 +193,21 @@ static int show_opposite(const Model *m, size_t states, size_t arrows) {
   printf("\n");
   for (size_t i = 0; i < r.arrows; i++)
     printf("%d %d %d\n", from[i], event[i], to[i]);
-  int touched = 0;
-  for (size_t i = r.arrows; i < COVER_ARROWS; i++)
-    touched |= from[i] != UNTOUCHED * 257 || event[i] != UNTOUCHED || to[i] != UNTOUCHED * 257;
-  for (size_t i = r.states; i < COVER_STATES; i++)
-    touched |= flags[i] != UNTOUCHED;
-  return touched || r.number != COVER_DONE || r.states != states || r.arrows != arrows || r.sets != m->sets || r.profiles != m->profiles;
+  return touched_opposite(r.states, r.arrows) || r.number != COVER_DONE || r.states != states || r.arrows != arrows || r.sets != m->sets || r.profiles != m->profiles;
 }
 
-/* C's opposite as document 01 lists it: accepting only 2. */
-static int show_opposite_of_c(void) {
-  int differing = show_opposite(&C, 6, COUNT(arrows_of_c));
+/* What stands in the slices is not C's opposite as document 01 lists it, accepting only 2. */
+static int differs_from_c(void) {
   for (size_t i = 0; i < COUNT(arrows_of_c); i++)
-    differing |= from[i] != arrows_of_c[i][0] || event[i] != arrows_of_c[i][1] || to[i] != arrows_of_c[i][2];
+    if (from[i] != arrows_of_c[i][0] || event[i] != arrows_of_c[i][1] || to[i] != arrows_of_c[i][2])
+      return 1;
   for (size_t i = 0; i < 6; i++)
-    differing |= flags[i] != (i == 2);
-  return differing;
+    if (flags[i] != (i == 2))
+      return 1;
+  return 0;
 }
+
+static int show_opposite_of_c(void) { return show_opposite(&C, 6, COUNT(arrows_of_c)) + differs_from_c(); }
 
 /* With this room C's opposite, which has 6 states and 16 arrows, is written or refused with 7, and then nothing of it is. */
 static int show_room(const char *what, size_t from_room, size_t event_room, size_t to_room, size_t state_room, uint8_t number) {
@@ -207,11 +216,20 @@ static int show_room(const char *what, size_t from_room, size_t event_room, size
          r.arrows);
   size_t states = number == COVER_DONE ? 6 : 0, arrows = number == COVER_DONE ? 16 : 0;
   return r.number != number || r.sets != C.sets || r.profiles != C.profiles || r.states != states || r.arrows != arrows ||
-         (number != COVER_DONE && (from[0] != UNTOUCHED * 257 || event[0] != UNTOUCHED || to[0] != UNTOUCHED * 257 || flags[0] != UNTOUCHED));
+         touched_opposite(states, arrows) || (number == COVER_DONE && differs_from_c());
+}
+
+/* A model that is refused for itself has no opposite, and nothing is written. */
+static int show_no_opposite(void) {
+  Model none = C;
+  none.n = 0;
+  CoverOpposite r = oppose(&none, COVER_ARROWS, COVER_ARROWS, COVER_ARROWS, COVER_STATES);
+  printf("C without states has no opposite: number %d\n", r.number);
+  return r.number != COVER_OUT_OF_RANGE || r.sets != 0 || r.profiles != 0 || r.states != 0 || r.arrows != 0 || touched_opposite(0, 0);
 }
 
 static int show_opposites(const Model *d, const Model *h) {
-  return show_opposite_of_c() + show_opposite(d, 2, 2) + show_opposite(h, 10, 30) +
+  return show_opposite_of_c() + show_opposite(d, 2, 2) + show_opposite(h, 10, 30) + show_no_opposite() +
          show_room("just enough room", 16, 16, 16, 6, COVER_DONE) +
          show_room("one place too few for where arrows start", 15, 16, 16, 6, COVER_MORE_OPPOSITE) +
          show_room("one place too few for events", 16, 15, 16, 6, COVER_MORE_OPPOSITE) +

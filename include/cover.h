@@ -110,11 +110,11 @@ CoverOpposite cover_opposite(
     uint8_t *set_masks, size_t set_masks_length, uint16_t *set_from, size_t set_from_length, uint8_t *set_event, size_t set_event_length,
     uint64_t *profile_arrows, size_t profile_arrows_length, uint64_t *profile_marks, size_t profile_marks_length,
     uint16_t *profile_from, size_t profile_from_length, uint8_t *profile_event, size_t profile_event_length,
-    /* written, a place for each arrow of the opposite; COVER_ARROWS places are always enough */
+    /* written, a place for each arrow of the opposite; of more than COVER_ARROWS places no more are used */
     uint16_t *from, size_t from_length, /* the state where it starts */
     uint8_t *event, size_t event_length,
     uint16_t *to, size_t to_length, /* the state where it leads */
-    /* written, a place for each state of the opposite, 1 if it is accepting and else 0; COVER_STATES places are always enough */
+    /* written, a place for each state of the opposite, 1 if it is accepting and else 0; of more than COVER_STATES places no more are used */
     uint8_t *flags, size_t flags_length);
 
 #ifdef __cplusplus

@@ -1,10 +1,10 @@
-//! Times the library's closing, by running its program, against the straight look-up here, in one go; and then the opposite of a model near
-//! the limits, counted and written. The library's time has in it what its program does besides, filling and summing the memory; that of the
+//! Times the library's closing, by running its program, against the straight look-up here, in one go; and then the opposites of two models
+//! near the limits, counted and written. The library's time has in it what its program does besides, filling and summing the memory; that of the
 //! straight look-up is closing alone.
 
 use crate::model::{Model, MOST_EVENTS};
 use crate::opposite::counted;
-use crate::opposites::{bench_runs, near_the_limits};
+use crate::opposites::{at_the_limit, bench_runs, near_the_limits};
 use crate::straight::Lent;
 use crate::tables::Tables;
 use crate::vectors::{closed_once, large, opposed_once};
@@ -22,9 +22,12 @@ pub fn run(program: &[&str]) -> i32 {
             return 1;
         }
     }
-    if let Err(fault) = oppose(&near_the_limits(), program) {
-        eprintln!("oracle: {}", fault);
-        return 1;
+    let [at_the_limit, _] = at_the_limit();
+    for model in [near_the_limits(), at_the_limit] {
+        if let Err(fault) = oppose(&model, program) {
+            eprintln!("oracle: {}", fault);
+            return 1;
+        }
     }
     0
 }

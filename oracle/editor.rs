@@ -118,6 +118,11 @@ fn print_opposites() {
             println!("{} {} {}", from, event, to);
         }
     }
+    let none = Model { n: 0, ..named("C") };
+    println!(
+        "C without states has no opposite: number {}",
+        none.refusal()
+    );
     let tables = Tables::close(&named("C"), None, None);
     let (sets, profiles) = (tables.sets.entries.len(), tables.profiles.entries.len());
     let size = Opposite::build(&tables).size();

@@ -1,8 +1,9 @@
-//! The stored cases for the library: models with every slice in turn too short, just right and too long, courses, and what must be printed
-//! of them.
+//! The stored cases for the library: models with every slice in turn too short, just right and too long, courses, opposites, and what must be
+//! printed of them.
 
 use crate::course::{accepts, Course};
 use crate::model::{bit, hand_worked, named, own_models, Model, Verdict};
+use crate::opposite::counted;
 use crate::opposites::{at_the_limit, near_the_limits, of_every_size, refused_runs, runs, Run};
 use crate::random::Random;
 use crate::tables::{Entry, Tables};
@@ -151,6 +152,8 @@ fn assert_opposites(cases: &[Case]) {
     assert!(some(&|told| told[0] == 0 && told[3] == 1));
     assert!(some(&|told| told[3] > 10_000));
     assert!(some(&|told| told[4] == 65_535));
+    let arrows = at_the_limit().map(|model| counted(&Tables::close(&model, None, None)).arrows);
+    assert_eq!(arrows, [65_535, 65_536]);
     assert!(some(&|told| told[1] == 256
         && told[2] > 2_000
         && told[4] > 30_000));
@@ -465,9 +468,13 @@ fn opposites() -> Vec<Case> {
             ..plain(model.clone())
         }));
     }
-    let refused = edges().into_iter().chain(named_missing());
-    for case in refused.filter(|case| refusal(case) != 0) {
-        cases.extend(refused_runs().into_iter().map(|run| Case {
+    // Some that are not refused have numbers past k in their slice of arrows.
+    for case in edges().into_iter().chain(named_missing()) {
+        let runs = match refusal(&case) {
+            0 => runs(&case.model),
+            _ => refused_runs().into(),
+        };
+        cases.extend(runs.into_iter().map(|run| Case {
             asked: Asked::Opposite(run),
             model: case.model.clone(),
             ..case

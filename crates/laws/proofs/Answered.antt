@@ -8,7 +8,7 @@ use mathlib.Core.Bool.{Bool, true, false, _||_}
 use mathlib.Core.Logic.{_⊎_, _↔_, inl, inr, ⊎-elim}
 use mathlib.Core.List.{List, [], _∷_, _++_}
 use mathlib.Core.Option.{none, some}
-use lib.ListN.{length, take, length-take}
+use lib.ListN.{length, take, getElem?, length-take}
 use lib.Seq.{take-all}
 use lib.Dec.{ltb}
 use borrow.Author.Tests.{lt-ltb, le-ltb, ltb-true, ltb-false}
@@ -19,16 +19,18 @@ use Rattle.laws.specs.Refusals.{firstOf, fault, refuse, outside, maskBey
 use Rattle.laws.specs.Bits.{someOf}
 use Rattle.laws.specs.Profiles.{Profile, Verdict, covered, uncovered, RightVerdict, verdict, values}
 use Rattle.laws.specs.Profiles.{HoldsSets, HoldsProfiles, setTable, profileTable}
-use Rattle.laws.specs.Opposite.{written, blockProfiles, flags, stateCount, arrows, arrowCount, opposite, Opposed}
+use Rattle.laws.specs.Opposite.{Arrow, sorted, written, blockProfiles, flags, stateCount, arrows, arrowCount, opposite, Opposed}
 use Rattle.laws.specs.Answers.{ClosingAnswer, closingAnswer, closingOf, uAndV, words, verdictFrom, verdictAnswer, oppositeFrom, oppositeAnswer}
 use Rattle.laws.specs.Answers.{CourseAnswer}
-use Rattle.laws.proofs.Booleans.{or-left, or-right, same-test}
+use Rattle.laws.proofs.Booleans.{or-left, or-right, same-test, not-nothing}
 use Rattle.laws.proofs.Tables.{up-to}
-use Rattle.laws.proofs.Complete.{set-steps, profile-steps, sets-closing, profiles-closing}
+use Rattle.laws.proofs.Complete.{set-steps, profile-steps, sets-closing, profiles-closing, closed as tables-closed}
 use Rattle.laws.proofs.Meaning.{machine-within}
 use Rattle.laws.proofs.Verdicts.{verdict-right}
 use Rattle.laws.proofs.Opposites.{opposed}
-use Rattle.laws.proofs.Counts.{states-counted, arrows-counted}
+use Rattle.laws.proofs.Counts.{states-counted, arrows-counted, arrows-inside}
+use Rattle.laws.proofs.Sorted.{arrows-sorted}
+use Rattle.laws.proofs.Members.{member}
 use Rattle.laws.proofs.Unrefused.{unrefused}
 
 -- a table up to a room has no more entries than that
@@ -327,6 +329,33 @@ module _ (K : Kind) (m : Model) (a b : ℕ) where
               omega (arith, states-counted Ps ts bs, ltb-false s states f),
               omega (arith, arrows-counted W M (m .k) Ps ts, ltb-false r lines g),
             )
+
+    -- whatever the number, its arrows are sorted, and none is there twice
+    pub opposite-sorted : sorted (oppositeAnswer K m a b s r .arrows) ≡ true
+    unfolding oppositeAnswer oppositeFrom sorted
+    opposite-sorted = go (C .number) (ltb s states || ltb r lines) refl refl
+      where
+        go : (n : ℕ) (l : Bool) → C .number ≡ n → (ltb s states || ltb r lines) ≡ l → sorted (oppositeAnswer K m a b s r .arrows) ≡ true
+        go (suc n) l e f = rw (e, oppositeFrom)
+        go zero true e f = rw (e, f, oppositeFrom)
+        go zero false e f = rw (e, f, oppositeFrom) (arrows-sorted W M (m .k) Ps ts bs)
+
+    -- they are on the k events, between states that have a flag
+    pub opposite-inside : (i : ℕ) (e : Arrow) → getElem? (oppositeAnswer K m a b s r .arrows) i ≡ some e
+        → (e .from < length (oppositeAnswer K m a b s r .flags)) × (e .event < m .k) × (e .to < length (oppositeAnswer K m a b s r .flags))
+    unfolding oppositeAnswer oppositeFrom
+    opposite-inside i e = go (C .number) (ltb s states || ltb r lines) refl refl
+      where
+        go : (n : ℕ) (l : Bool) → C .number ≡ n → (ltb s states || ltb r lines) ≡ l
+            → getElem? (oppositeAnswer K m a b s r .arrows) i ≡ some e
+            → (e .from < length (oppositeAnswer K m a b s r .flags)) × (e .event < m .k) × (e .to < length (oppositeAnswer K m a b s r .flags))
+        go (suc n) l p f = rw (p, oppositeFrom) (λ h. absurd (not-nothing h))
+        go zero true p f = rw (p, f, oppositeFrom) (λ h. absurd (not-nothing h))
+        go zero false p f =
+            let c = closing-whole p in
+            let whole = tables-closed W M (m .k) (C .sets) (C .profiles) (c .sets-hold) (c .profiles-hold) in
+            rw (p, f, oppositeFrom, states-counted Ps ts bs)
+            (λ h. arrows-inside W M (m .k) Ps ts bs whole e (member (arrows W M (m .k) Ps ts bs) (i, h)))
 
     -- DEMAND 3: with number 0 of every course exactly one of the model and the machine read from its flags and arrows accepts
     pub opposite-answers : oppositeAnswer K m a b s r .number ≡ 0

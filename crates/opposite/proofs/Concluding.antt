@@ -43,7 +43,7 @@ module _ (fs : List ℕ) (es : List Arrow) (O : OppositeSlices) where
   unfolding flagsIn oppositeSlices over
   flags-read = take-at fs _ (length fs) refl
 
-  arrows-read : arrowsIn (oppositeSlices fs es O) (length es) ≡ es
+  pub arrows-read : arrowsIn (oppositeSlices fs es O) (length es) ≡ es
   unfolding arrowsIn oppositeSlices arrow
   arrows-read =
       read-are _ es (length es) refl

@@ -1,23 +1,27 @@
--- WHAT FOLLOWS FROM THE CONTRACT OF THE OPPOSITE: no second result meets it, what is past a count stays as it was, and only the
--- first k numbers of arrows are read.
-use Prim.Native.Nat.{ℕ, _≤_}
+-- WHAT FOLLOWS FROM THE CONTRACT OF THE OPPOSITE: no second result meets it, what is past a count stays as it was, the arrows that
+-- stand in the slices are sorted and inside, and only the first k numbers of arrows are read.
+use Prim.Native.Nat.{ℕ, _≤_, _<_}
 use native.Mathlib.Omega.{arith}
 use mathlib.Core.Path.{_≡_, sym, ap, _∙_}
+use mathlib.Core.Bool.{true}
 use mathlib.Core.List.{List, map}
-use lib.ListN.{length, take, length-map}
+use mathlib.Core.Option.{some}
+use lib.ListN.{length, take, getElem?, length-map}
 use Rattle.laws.specs.Model.{eight}
-use Rattle.laws.specs.Opposite.{Arrow}
+use Rattle.laws.specs.Opposite.{Arrow, sorted}
 use Rattle.laws.specs.Answers.{SetSlices, ProfileSlices, OppositeSlices, setRoom, profileRoom, stateRoom, arrowRoom, oppositeSlices}
 use Rattle.laws.specs.Answers.{over, oppositeIn}
-use Rattle.laws.proofs.Answered.{opposite-within}
+use Rattle.laws.proofs.Answered.{opposite-within, opposite-sorted, opposite-inside}
 use Rattle.laws.proofs.Read.{opposite-numbers}
 use Rattle.model.specs.Asked.{asked}
 use Rattle.model.specs.declared.Model.{Model}
 use Rattle.cover.specs.Memory.{Kept}
 use Rattle.cover.proofs.Promises.{one-closing, written}
+use Rattle.opposite.specs.Memory.{arrowsIn}
 use Rattle.opposite.specs.Opposites.{told, tells, due, WritesOpposite}
 use Rattle.opposite.specs.declared.Answer.{Answer}
 use Rattle.opposite.specs.declared.Answer.the-variants.{Written, Refused}
+use Rattle.opposite.proofs.Concluding.{arrows-read}
 
 -- THE OPPOSITE reads only the first k numbers of arrows: with k there, no other matters
 pub opposite-first-k : (m : Model) (arrows other : List ℕ) (S : SetSlices) (T : ProfileSlices) (O : OppositeSlices)
@@ -73,3 +77,23 @@ module _ {m : Model} {arrows : List ℕ} {S S′ : SetSlices} {T T′ : ProfileS
       column : (f : Arrow → ℕ) {old : List ℕ} → told answer .arrows ≤ length old
           → Kept (told answer .arrows) old (over (map f (due m arrows S T O .arrows)) old)
       column f l = written _ _ (told answer .arrows) (length-map (due m arrows S T O .arrows) f ∙ sym (ap (λ t. t .arrows) (w .answered))) l
+
+  -- the arrows and flags that now stand in the slices are those that are due
+  arrows-stand : arrowsIn O′ (told answer .arrows) ≡ due m arrows S T O .arrows
+  unfolding tells
+  arrows-stand = rw (w .opposite-slices, ap (λ t. t .arrows) (w .answered)) (arrows-read _ _ O)
+
+  -- they are sorted by from, event, to, and none stands there twice
+  pub slices-sorted : sorted (arrowsIn O′ (told answer .arrows)) ≡ true
+  unfolding oppositeIn
+  slices-sorted =
+      ap sorted arrows-stand ∙ opposite-sorted eight (asked m arrows) (setRoom eight S) (profileRoom eight T) (stateRoom O) (arrowRoom O)
+
+  -- and are on the k events, between states that have a flag
+  pub slices-inside : (i : ℕ) (e : Arrow) → getElem? (arrowsIn O′ (told answer .arrows)) i ≡ some e
+      → (e .from < told answer .states) × (e .event < m .k) × (e .to < told answer .states)
+  unfolding oppositeIn tells
+  slices-inside i e at =
+      rw (ap (λ t. t .states) (w .answered))
+      (opposite-inside eight (asked m arrows) (setRoom eight S) (profileRoom eight T) (stateRoom O) (arrowRoom O) i e
+      (ap (λ (es : List Arrow). getElem? es i) (sym arrows-stand) ∙ at))

@@ -14,12 +14,22 @@ use Rattle.laws.specs.Model.{Machine}
 use Rattle.laws.specs.Profiles.{Profile}
 use Rattle.laws.specs.Opposite.{rejectsNonEmpty, secondCount, blockProfiles, pairCount, stateCount, arrowCount}
 use Rattle.laws.proofs.Booleans.{both, never}
-use Rattle.opposite.specs.Tables.{hasBlock, blockStates, blockArrows}
+use Rattle.opposite.specs.Tables.{hasBlock}
 use Rattle.opposite.specs.Drawing.{Counted}
 use Rattle.opposite.specs.declared.counts.Counts.{Counts}
 use Rattle.opposite.proofs.Adding.{Adding, add-begins, add-next, add-ends, total-most, few-seconds}
 use Rattle.opposite.proofs.Adding.{none-counted, no-pair-no-block, pair-has-block}
 use Rattle.opposite.proofs.Adding.{Counting, count-begins, count-next, count-ends, count-most}
+
+module _ (Ps : List ℕ) (ts : List Profile) where
+  -- how many states the block of a profile adds, if it has one
+  unfoldable pub blockStates : Profile → ℕ
+  blockStates t = cond (hasBlock Ps t) (length ts + 1) 0
+
+  -- and how many arrows: k for each pair, k for the gate and for each state, and the second arrows
+  unfoldable pub blockArrows : Machine ℕ → ℕ → Profile → ℕ
+  blockArrows M k t =
+      cond (hasBlock Ps t) (k * count (λ P. rejectsNonEmpty 8 P t) Ps + (length ts + 1) * k + secondCount 8 M k ts t) 0
 
 module _ {A : Type 0} (f : A → Bool) where
   -- as many are kept as are counted

@@ -145,11 +145,11 @@ module _ {M : Machine ℕ} {k : ℕ} {Ps leads marks from event to fs : List ℕ
         to-room = omega (arith, s .fits .arrows-fit);
       }
 
-  abbrev setArrows : List Arrow
-  setArrows = setsFrom M k Ps ts (keepBy shown ts) 0 Ps
+  abbrev setsArrows : List Arrow
+  setsArrows = setsFrom M k Ps ts (keepBy shown ts) 0 Ps
 
-  abbrev blockArrows : List Arrow
-  blockArrows = blocksFrom M k ts (length Ps) (keepBy shown ts)
+  abbrev blocksArrows : List Arrow
+  blocksArrows = blocksFrom M k ts (length Ps) (keepBy shown ts)
 
   -- the blocks' last state is within the limit
   pub last-state : length Ps + length (keepBy shown ts) * (length leads + 1) ≤ 65535
@@ -162,14 +162,14 @@ module _ {M : Machine ℕ} {k : ℕ} {Ps leads marks from event to fs : List ℕ
   all-idempotent = ap (everyOf isIdempotent) (s .keeps) ∙ blocks-idempotent Ps ts
 
   -- the sets' arrows and then the blocks' are to be written
-  drawing : Writing 0 (arrows 8 M k Ps ts bs) base base 0 (setArrows ++ blockArrows)
+  drawing : Writing 0 (arrows 8 M k Ps ts bs) base base 0 (setsArrows ++ blocksArrows)
   drawing =
       left-as (begin arrows-room)
       (sym (arrows-are-paper M k Ps ts bs) ∙ ap (λ bs. setsFrom M k Ps ts bs 0 Ps ++ blocksFrom M k ts (length Ps) bs) (sym (s .keeps)))
 
   -- there is room for the sets'
-  pub sets-room : Room 0 setArrows base
-  sets-room = room-next drawing setArrows blockArrows refl
+  pub sets-room : Room 0 setsArrows base
+  sets-room = room-next drawing setsArrows blocksArrows refl
 
   -- the flags were written over what was noted
   flags-put : {later : List ℕ} → later ≡ over (flagsOf Ps (length leads) h) new → later ≡ over (flags Ps ts bs) fs
@@ -181,22 +181,22 @@ module _ {M : Machine ℕ} {k : ℕ} {Ps leads marks from event to fs : List ℕ
       ∙ over-again (noted Ps leads marks n) all fs (omega (arith, s .long, s .few, flags-long Ps (length leads) h))
       ∙ ap (λ (f : List ℕ). over f fs) paper
 
-  module _ {middle : ArrowSlices} {behind : ℕ} (sets-put : Puts 0 setArrows base middle behind) where
+  module _ {middle : ArrowSlices} {behind : ℕ} (sets-put : Puts 0 setsArrows base middle behind) where
     -- behind the sets' arrows the blocks' are to be written
-    drawing-blocks : Writing 0 (arrows 8 M k Ps ts bs) base middle behind blockArrows
-    drawing-blocks = write-next drawing setArrows blockArrows refl sets-put
+    drawing-blocks : Writing 0 (arrows 8 M k Ps ts bs) base middle behind blocksArrows
+    drawing-blocks = write-next drawing setsArrows blocksArrows refl sets-put
 
     -- there is room for them
-    pub blocks-room : Room behind blockArrows middle
-    blocks-room = room-next drawing-blocks blockArrows [] (sym (append-nil blockArrows))
+    pub blocks-room : Room behind blocksArrows middle
+    blocks-room = room-next drawing-blocks blocksArrows [] (sym (append-nil blocksArrows))
 
     -- DRAWN: with both written all arrows stand there, and with its flags the opposite
-    pub drawn : {from′ event′ to′ flags′ : List ℕ} {end : ℕ} → Puts behind blockArrows middle (arrowMemory from′ event′ to′) end
+    pub drawn : {from′ event′ to′ flags′ : List ℕ} {end : ℕ} → Puts behind blocksArrows middle (arrowMemory from′ event′ to′) end
         → flags′ ≡ over (flagsOf Ps (length leads) h) new
         → Drawn M k Ps ts (oppositeMemory from event to fs) (oppositeMemory from′ event′ to′ flags′)
     unfolding put putAt oppositeSlices
     drawn p e =
-        let all = all-written (write-next drawing-blocks blockArrows [] (sym (append-nil blockArrows)) p) refl in
+        let all = all-written (write-next drawing-blocks blocksArrows [] (sym (append-nil blocksArrows)) p) refl in
         ap₂ (λ (l : ArrowSlices) g. oppositeMemory (l .from) (l .event) (l .to) g) (all .slices) (flags-put e)
 
 -- WHAT WAS COUNTED for rooms that are those of the slices O

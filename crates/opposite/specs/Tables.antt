@@ -1,14 +1,12 @@
 -- The tables that the opposite is made from, as its code has them: profiles in two slices, and beside them a byte for each that says
 -- whether it has a block.
-use Prim.Native.Nat.{ℕ, _+_, _*_}
+use Prim.Native.Nat.{ℕ}
 use mathlib.Core.Bool.{Bool, not, _&&_, cond}
 use mathlib.Core.List.{List, [], _∷_}
-use lib.ListN.{length}
 use lib.Dec.{eqb}
-use Rattle.laws.specs.Bits.{someOf, count}
+use Rattle.laws.specs.Bits.{someOf}
 use Rattle.laws.specs.Profiles.{Profile, sameProfile, join, image, marksRound}
-use Rattle.laws.specs.Model.{Machine}
-use Rattle.laws.specs.Opposite.{rejectsNonEmpty, secondCount}
+use Rattle.laws.specs.Opposite.{rejectsNonEmpty}
 
 -- the profiles in a slice of arrows and a slice of marks
 unfoldable pub profilesAt : List ℕ → List ℕ → List Profile
@@ -34,13 +32,3 @@ staysUnmarked P t = not (eqb P 0) && (eqb (image 8 P t) P && not (marksRound 8 P
 -- joined with itself it is itself
 unfoldable pub isIdempotent : Profile → Bool
 isIdempotent t = sameProfile (join 8 t t) t
-
-module _ (Ps : List ℕ) (ts : List Profile) where
-  -- how many states the block of a profile adds, if it has one
-  unfoldable pub blockStates : Profile → ℕ
-  blockStates t = cond (hasBlock Ps t) (length ts + 1) 0
-
-  -- and how many arrows: k for each pair, k for the gate and for each state, and the second arrows
-  unfoldable pub blockArrows : Machine ℕ → ℕ → Profile → ℕ
-  blockArrows M k t =
-      cond (hasBlock Ps t) (k * count (λ P. rejectsNonEmpty 8 P t) Ps + (length ts + 1) * k + secondCount 8 M k ts t) 0

@@ -160,7 +160,7 @@ pub fn count(
     if state_room < states {
         return no_fit();
     }
-    if arrow_room < lines {
+    if lines > arrow_room {
         return no_fit();
     }
     Counts {

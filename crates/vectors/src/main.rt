@@ -1,6 +1,6 @@
 // Runs the stored models through the library: closing and the verdict, each with every slice in turn lent too short, just right and too
-// long, and with all of them of different lengths; single courses; and opposites. For each run the answer and all memory go into a sum. The
-// file stdout was written by the independent program.
+// long, and with all of them of different lengths; single courses; and opposites. For each run the answer and all memory go into a sum, of an
+// opposite all lent memory. The file stdout was written by the independent program.
 ghost use Prim.Native.Nat.{_≤_};
 use cover::Judgement;
 use libc::STDIN_FILENO;
