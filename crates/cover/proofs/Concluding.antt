@@ -17,7 +17,8 @@ use Rattle.laws.proofs.Places.{place-below}
 use Rattle.laws.proofs.Values.{value-at}
 use Rattle.laws.proofs.Verdicts.{covered-none, first-verdict}
 use Rattle.laws.proofs.Answered.{verdict-covered, verdict-6, verdict-uncovered}
-use Rattle.cover.specs.Memory.{entriesIn, setsIn, profilesIn, Linked, wordIn, Places}
+use Rattle.closing.specs.Memory.{entriesIn, setsIn, profilesIn}
+use Rattle.cover.specs.WordMemory.{Linked, wordIn, Places}
 use Rattle.cover.specs.Pairs.{rejects, FirstAt, First}
 use Rattle.cover.specs.Verdicts.{told, isCovered, tells, Stored, wholly, Concludes}
 use Rattle.cover.specs.declared.words.Placed.{Placed}
@@ -25,9 +26,9 @@ use Rattle.cover.specs.declared.pairs.Pair.{Pair}
 use Rattle.cover.specs.declared.pairs.Pair.the-variants.{Nowhere, At}
 use Rattle.cover.specs.declared.answer.Answer.{Answer}
 use Rattle.cover.specs.declared.answer.Answer.the-variants.{Covered, Uncovered, Refused}
-use Rattle.cover.proofs.Slices.{entries-length, entries-at}
-use Rattle.cover.proofs.SetTable.{setLayout}
-use Rattle.cover.proofs.ProfileTable.{profileLayout}
+use Rattle.closing.proofs.Slices.{entries-length, entries-at}
+use Rattle.closing.proofs.SetTable.{setLayout}
+use Rattle.closing.proofs.ProfileTable.{profileLayout}
 use Rattle.cover.proofs.Rebuilding.{word-same}
 
 -- the values of what is read, each at its place

@@ -14,8 +14,9 @@ use Rattle.laws.specs.Words as words
 use Rattle.laws.specs.Tables.{WordValue, Entry, noEntry, noEvent, Came, empty-word, one-event, one-more, Holds, rebuilt, wordOf}
 use Rattle.laws.proofs.Booleans.{inside, either}
 use Rattle.laws.proofs.Places.{place-below, past-end, end-past, length-one-more}
-use Rattle.cover.specs.Memory.{entriesIn, Linked, wordIn}
-use Rattle.cover.proofs.Slices.{entries-at, entries-length}
+use Rattle.closing.specs.Memory.{entriesIn}
+use Rattle.cover.specs.WordMemory.{Linked, wordIn}
+use Rattle.closing.proofs.Slices.{entries-at, entries-length}
 
 -- the entries of two slices as `wordIn` reads them
 abbrev links : List ℕ → List ℕ → List (Entry ℕ)

@@ -13,18 +13,18 @@ use Rattle.laws.specs.Answers.{SetSlices, ProfileSlices, setRoom, profileRoom, 
 use Rattle.laws.specs.Answers.{verdictAnswer, closingIn, verdictIn, wordMemory}
 use Rattle.laws.proofs.Answered.{verdict-refused, verdict-answers}
 use Rattle.model.specs.Asked.{asked}
-use Rattle.cover.specs.Memory.{setMemory, profileMemory, setsIn, profilesIn, SetsLent, ProfilesLent}
-use Rattle.cover.specs.Closing as closing
+use Rattle.closing.specs.Memory.{setMemory, profileMemory, setsIn, profilesIn, SetsLent, ProfilesLent}
+use Rattle.closing.specs.Closing as closing
 use Rattle.cover.specs.Verdicts.{told, isCovered, tells, given, due, GivesVerdict, Stored, wholly, Concludes}
 use Rattle.model.specs.declared.Model.{Model}
-use Rattle.cover.specs.declared.Closed.{Closed}
+use Rattle.closing.specs.declared.Closed.{Closed}
 use Rattle.cover.specs.declared.answer.Answer.{Answer}
 use Rattle.cover.specs.declared.answer.Answer.the-variants.{Covered, Uncovered, Refused}
-use Rattle.cover.proofs.Slices.{entries-part}
-use Rattle.cover.proofs.SetTable as of-sets
-use Rattle.cover.proofs.ProfileTable as of-profiles
+use Rattle.closing.proofs.Slices.{entries-part}
+use Rattle.closing.proofs.SetTable as of-sets
+use Rattle.closing.proofs.ProfileTable as of-profiles
 use Rattle.cover.proofs.Rebuilding.{linked}
-use Rattle.cover.proofs.Promises.{sets-within, profiles-within}
+use Rattle.closing.proofs.Promises.{sets-stand, profiles-stand}
 
 -- the first n places of the slices, and what is read there
 abbrev firstSets : ℕ → SetSlices → SetSlices
@@ -74,17 +74,6 @@ given-is answer d memory e = go answer (d .verdict) (ap (λ t. t .covered) e) (a
 
 module _ {m : Model} {arrows : List ℕ} {S S′ : SetSlices} {T T′ : ProfileSlices} {closed : Closed}
     (c : closing.Closing m arrows S S′ T T′ closed) where
-  -- what closing answered stands in the first places, within the rooms
-  pub sets-stand : SetsLent S′ (closed .sets) (setRoom eight S)
-  sets-stand =
-      rw (c .set-slices, c .sets)
-      (of-sets.setLayout .lent _ S 0 _ (of-sets.room-lent S refl) (omega (arith, c .sets, sets-within c)))
-
-  pub profiles-stand : ProfilesLent T′ (closed .profiles) (profileRoom eight T)
-  profiles-stand =
-      rw (c .profile-slices, c .profiles)
-      (of-profiles.profileLayout .lent _ T 0 _ (of-profiles.room-lent T refl) (omega (arith, c .profiles, profiles-within c)))
-
   -- the first places of the slices of sets and profiles
   abbrev P : SetSlices
   P = firstSets (closed .sets) S′
@@ -127,8 +116,8 @@ module _ {m : Model} {arrows : List ℕ} {S S′ : SetSlices} {T T′ : ProfileS
     pub stored : Stored P Q
     unfolding setsIn profilesIn
     stored =
-        let s = sets-stand in
-        let t = profiles-stand in
+        let s = sets-stand c in
+        let t = profiles-stand c in
         record {
           sets-linked = linked _ _ _ _ sets-held (length-take-le _ _ (omega arith)) (simp length-take (omega arith));
           profiles-linked = linked _ _ _ _ profiles-held (length-take-le _ _ (omega arith)) (simp length-take (omega arith));
@@ -154,13 +143,13 @@ module _ {m : Model} {arrows : List ℕ} {S S′ : SetSlices} {T T′ : ProfileS
       where
         sets-read : setsIn P (length (P .masks)) ≡ closing.due m arrows S T .sets
         sets-read =
-            let s = sets-stand in
+            let s = sets-stand c in
             rw (length-take-le (closed .sets) (S′ .masks) (omega arith), sets-part, c .set-slices, c .sets)
             (of-sets.setLayout .back _ S)
 
         profiles-read : profilesIn Q (length (Q .arrows)) ≡ closing.due m arrows S T .profiles
         profiles-read =
-            let t = profiles-stand in
+            let t = profiles-stand c in
             rw (length-take-le (closed .profiles) (T′ .arrows) (omega arith), profiles-part, c .profile-slices, c .profiles)
             (of-profiles.profileLayout .back _ T)
 

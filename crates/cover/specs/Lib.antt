@@ -1,8 +1,5 @@
--- What the contracts of the check cite beside the definitions of document 01: how code's numbers and slices stand for them.
-pub mod Values
-pub mod Memory
+-- What the contract of the verdict cites beside the definitions of document 01: how code's numbers and slices stand for them.
+pub mod WordMemory
 pub mod Pairs
--- the contract of each public call
-pub mod Closing
+-- the contract of the public call
 pub mod Verdicts
-pub mod Courses

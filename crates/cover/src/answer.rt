@@ -1,5 +1,5 @@
 // What the verdict answers, and how it is found once sets and profiles are complete.
-ghost use Rattle.cover.specs.Memory.{setMemory, profileMemory};
+ghost use Rattle.closing.specs.Memory.{setMemory, profileMemory};
 ghost use Rattle.cover.specs.Verdicts.{Stored, Concludes};
 use crate::pairs;
 use crate::pairs::Pair;

@@ -2,9 +2,9 @@
 ghost use Prim.Native.Nat.{_<_, _≤_};
 ghost use mathlib.Core.Path.{_≡_};
 ghost use lib.ListN.{length};
-ghost use Rattle.cover.specs.Memory.{Linked, wordIn, Places};
-use crate::table::NO_ENTRY;
-use crate::table::NO_EVENT;
+ghost use Rattle.cover.specs.WordMemory.{Linked, wordIn, Places};
+use closing::NO_ENTRY;
+use closing::NO_EVENT;
 
 // How many letters the word of entry i has.
 fn count(from: &[u16], event: &[u8], i: usize) -> usize

@@ -1,6 +1,6 @@
 // The calls for an editor written in C: numbers and slices go in, a plain struct of numbers comes back.
 ghost use mathlib.Core.Path.{_≡_};
-ghost use Rattle.cover.specs.Memory.{setMemory, profileMemory};
+ghost use Rattle.closing.specs.Memory.{setMemory, profileMemory};
 ghost use Rattle.opposite.specs.Memory.{oppositeMemory};
 ghost use Rattle.editor.specs.Editor.{inNumbers, Exports, oppositeNumbers, ExportsOpposite};
 use cover::Answer;

@@ -22,13 +22,13 @@ use Rattle.laws.proofs.Over.{over-first}
 use Rattle.laws.proofs.Answered.{closing-whole, opposite-refused, opposite-7, opposite-0, opposite-exactly-7, opposite-counts, opposite-answers}
 use Rattle.model.specs.Asked.{asked}
 use Rattle.model.specs.declared.Model.{Model}
-use Rattle.cover.specs.Memory.{setsIn, profilesIn}
-use Rattle.cover.specs.Closing as closing
-use Rattle.cover.specs.declared.Closed.{Closed}
-use Rattle.cover.proofs.Slices.{read-are, column-at}
-use Rattle.cover.proofs.SetTable as of-sets
-use Rattle.cover.proofs.ProfileTable as of-profiles
-use Rattle.cover.proofs.Verdicts.{sets-stand, profiles-stand}
+use Rattle.closing.specs.Memory.{setsIn, profilesIn}
+use Rattle.closing.specs.Closing as closing
+use Rattle.closing.specs.declared.Closed.{Closed}
+use Rattle.closing.proofs.Slices.{read-are, column-at}
+use Rattle.closing.proofs.SetTable as of-sets
+use Rattle.closing.proofs.ProfileTable as of-profiles
+use Rattle.closing.proofs.Promises.{sets-stand, profiles-stand}
 use Rattle.opposite.specs.Tables.{profilesAt}
 use Rattle.opposite.specs.Memory.{arrowsIn, flagsIn}
 use Rattle.opposite.specs.Drawing.{Draws}

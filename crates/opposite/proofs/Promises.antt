@@ -15,8 +15,8 @@ use Rattle.laws.proofs.Answered.{opposite-within, opposite-sorted, opposite-ins
 use Rattle.laws.proofs.Read.{opposite-numbers}
 use Rattle.model.specs.Asked.{asked}
 use Rattle.model.specs.declared.Model.{Model}
-use Rattle.cover.specs.Memory.{Kept}
-use Rattle.cover.proofs.Promises.{one-closing, written}
+use Rattle.closing.specs.Memory.{Kept}
+use Rattle.closing.proofs.Promises.{one-closing, written}
 use Rattle.opposite.specs.Memory.{arrowsIn}
 use Rattle.opposite.specs.Opposites.{told, tells, due, WritesOpposite}
 use Rattle.opposite.specs.declared.Answer.{Answer}

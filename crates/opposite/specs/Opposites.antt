@@ -12,9 +12,9 @@ use Rattle.laws.specs.Opposite.{blockProfiles, stateCount, arrowCount, written,
 use Rattle.laws.specs.Answers.{SetSlices, ProfileSlices, OppositeSlices, stateRoom, arrowRoom, oppositeSlices, OppositeAnswer, oppositeIn}
 use Rattle.model.specs.Asked.{asked}
 use Rattle.model.specs.declared.Model.{Model}
-use Rattle.cover.specs.Memory.{setsIn, profilesIn}
-use Rattle.cover.specs.Closing.{Closing}
-use Rattle.cover.specs.declared.Closed.{Closed}
+use Rattle.closing.specs.Memory.{setsIn, profilesIn}
+use Rattle.closing.specs.Closing.{Closing}
+use Rattle.closing.specs.declared.Closed.{Closed}
 use Rattle.opposite.specs.Memory.{arrowsIn, flagsIn}
 use Rattle.opposite.specs.declared.counts.Counts.{Counts}
 use Rattle.opposite.specs.declared.Answer.{Answer}

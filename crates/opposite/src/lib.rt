@@ -7,11 +7,11 @@ mod flags;
 mod tables;
 
 ghost use mathlib.Core.Path.{_≡_};
-ghost use Rattle.cover.specs.Memory.{setMemory, profileMemory};
+ghost use Rattle.closing.specs.Memory.{setMemory, profileMemory};
 ghost use Rattle.opposite.specs.Memory.{oppositeMemory};
 ghost use Rattle.opposite.specs.Opposites.{WritesOpposite, answerOf};
+use closing::close;
 use counts::Counts;
-use cover::close;
 use model::Model;
 
 // How many sets and profiles stand in the lent slices; with them how many states and arrows the opposite has, which stand in theirs, or the

@@ -2,7 +2,7 @@
 // long, and with all of them of different lengths; single courses; and opposites. For each run the answer and all memory go into a sum, of an
 // opposite all lent memory. The file stdout was written by the independent program.
 ghost use Prim.Native.Nat.{_≤_};
-use cover::Judgement;
+use course::Judgement;
 use libc::STDIN_FILENO;
 use libc::STDOUT_FILENO;
 use model::Model;
@@ -246,7 +246,7 @@ fn judge_parts(
 ) -> Judgement {
     let a = least(u_letters, u.len());
     let b = least(v_letters, v.len());
-    cover::judge(m, arrows, &u[..a], &v[..b])
+    course::judge(m, arrows, &u[..a], &v[..b])
 }
 
 // 100 for an accepted course, 101 for one that is not, and the number of a refusal.

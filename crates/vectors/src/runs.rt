@@ -9,8 +9,8 @@ use crate::sums::mix_numbers;
 use crate::sums::mix_words;
 use crate::sums::tone_of;
 use crate::sums::wide;
+use closing::Closed;
 use cover::Answer;
-use cover::Closed;
 use model::Model;
 
 // The slices are longer than the limits, so that it is seen that nothing is written beyond these.
@@ -167,7 +167,7 @@ fn called(
     words: &mut [u8],
 ) -> Seen {
     match call {
-        Call::Close => seen_closed(cover::close(
+        Call::Close => seen_closed(closing::close(
             m,
             arrows,
             masks,

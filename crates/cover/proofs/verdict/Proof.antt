@@ -4,7 +4,8 @@ use native.Mathlib.Nat.{le-trans}
 use mathlib.Core.Path.{sym}
 use lib.Seq.{length-take-le}
 use borrow.Author.Needs.{needs}
-use Rattle.cover.proofs.Verdicts.{sets-stand, profiles-stand, refuses, stored, gives-concluded}
+use Rattle.closing.proofs.Promises.{sets-stand, profiles-stand}
+use Rattle.cover.proofs.Verdicts.{refuses, stored, gives-concluded}
 use Rattle.cover.proofs.verdict.Statement.{statement}
 use Rattle.cover.proofs.verdict.Tie as tie
 

@@ -4,7 +4,7 @@ use native.Mathlib.Nat.{le-trans}
 use mathlib.Core.Path.{sym, subst}
 use lib.Seq.{length-take-le}
 use borrow.Author.Needs.{needs}
-use Rattle.cover.proofs.Verdicts.{sets-stand, profiles-stand}
+use Rattle.closing.proofs.Promises.{sets-stand, profiles-stand}
 use Rattle.opposite.specs.Opposites.{WritesOpposite}
 use Rattle.opposite.proofs.Concluding.{refuses, same-places, few-profiles, few-sets, unrefused, draws}
 use Rattle.opposite.proofs.opposite.Statement.{statement}

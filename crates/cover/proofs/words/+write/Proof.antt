@@ -10,7 +10,7 @@ use borrow.Author.Needs.{needs}
 use borrow.Fn.Kinds.{In}
 use borrow.Fn.PlainCycle.{Measures, is, falls, and}
 use Rattle.laws.specs.Tables.{noEntry, noEvent}
-use Rattle.cover.specs.Memory.{Linked, wordIn}
+use Rattle.cover.specs.WordMemory.{Linked, wordIn}
 use Rattle.cover.proofs.Rebuilding.{from-below, word-empty, word-one, word-more, word-longer}
 use Rattle.cover.proofs.words.write.Reads as write
 use Rattle.cover.proofs.words.write.Kinds as kinds

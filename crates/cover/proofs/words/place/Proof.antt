@@ -10,7 +10,7 @@ use lib.Seq.{take-at, drop-at, drop-drop}
 use borrow.Author.Needs.{needs}
 use borrow.Author.Tests.{le-leb, lt-leb}
 use Rattle.laws.specs.Answers.{over}
-use Rattle.cover.specs.Memory.{Places}
+use Rattle.cover.specs.WordMemory.{Places}
 use Rattle.cover.proofs.Rebuilding.{word-short}
 use Rattle.cover.proofs.words.place.Statement.{statement}
 use Rattle.cover.proofs.words.place.Tie as tie

@@ -17,7 +17,7 @@ use Rattle.profile.specs.declared.Profile as code
 use Rattle.profile.specs.declared.Before.{Before}
 use Rattle.profile.specs.Values.{profile, eventValue, nextValue, before as beforeOf}
 use Rattle.profile.proofs.Lent.{event-value}
-use Rattle.cover.proofs.ProfileTable.{next-value}
+use Rattle.closing.proofs.ProfileTable.{next-value}
 use Rattle.opposite.proofs.Rows.{next-left, none-left}
 use Rattle.opposite.proofs.Adding.{Counting, count-begins, count-next, count-room, count-ends}
 use Rattle.opposite.proofs.counts.returns_of.Statement.{statement}

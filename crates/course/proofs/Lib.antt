@@ -1,0 +1,4 @@
+-- one course: its words read, and what is refused of it
+pub mod Judging
+-- what follows from the contract
+pub mod Promises

@@ -1,0 +1,2 @@
+-- the contract of the public call
+pub mod Courses
