@@ -1,6 +1,5 @@
 -- The entries of a table in its slices: what a column holds after they were written, and the entries that are read back.
-use Prim.Native.Nat.{ℕ, zero, suc, _+_, _≤_, _<_}
-use native.Mathlib.Nat.{add-zero, zero-add}
+use Prim.Native.Nat.{ℕ, zero, suc, _≤_, _<_}
 use native.Mathlib.Omega.{arith}
 use mathlib.Core.Path.{_≡_, refl, sym, ap, _∙_}
 use mathlib.Core.Option.{some}
@@ -12,16 +11,9 @@ use Rattle.laws.specs.Tables.{Entry}
 use Rattle.laws.specs.Answers.{over}
 use Rattle.laws.proofs.Booleans.{inside, not-nothing}
 use Rattle.laws.proofs.Places.{same-lists, element, place-below}
-use Rattle.laws.proofs.Members.{length-counted}
+use Rattle.laws.proofs.Members.{length-counted, place-counted}
 use Rattle.laws.proofs.Over.{over-again, over-length, over-at, over-same, over-set}
 use Rattle.closing.specs.Memory.{entriesIn}
-
--- the numbers from i on, by their places
-counted-at : (i d j : ℕ) → j < d → getElem? (counted i d) j ≡ some (i + j)
-unfolding counted
-counted-at i zero j h = absurd (omega arith)
-counted-at i (suc d) zero h = rw add-zero
-counted-at i (suc d) (suc j) h = counted-at (suc i) d j (omega arith) ∙ ap some (omega arith)
 
 module _ {A B : Type 0} (f : A → B) where
   -- what f makes of a list stands where it was made from
@@ -47,7 +39,7 @@ pub read-are : {A : Type 0} (read : ℕ → A) (es : List A) (n : ℕ) → lengt
 read-are read es n h same =
     same-lists (map read (counted 0 n)) es (simp (length-map, length-counted) (sym h))
     (λ i x y p q.
-    inside (sym p ∙ map-at read (counted 0 n) i (counted-at 0 n i (omega (arith, place-below es i q)) ∙ ap some (zero-add i))) ∙ same i y q)
+    inside (sym p ∙ place-counted read n i (omega (arith, place-below es i q))) ∙ same i y q)
 
 -- A COLUMN of a table: f of each element, written to the beginning of a slice
 module _ {A : Type 0} (f : A → ℕ) where
@@ -90,7 +82,7 @@ module _ {Value : Type 0} (value : ℕ → Value) (from event : List ℕ) where
   -- each at its place
   pub entries-at : (n i : ℕ) → i < n → getElem? (entriesIn value from event n) i ≡ some (entryIn i)
   unfolding entriesIn
-  entries-at n i h = map-at entryIn (counted 0 n) i (counted-at 0 n i h ∙ ap some (zero-add i))
+  entries-at n i h = place-counted entryIn n i h
 
   -- they are es where the slices have what es has at each place
   pub entries-are : (es : List (Entry Value)) (n : ℕ) → length es ≡ n → ((i : ℕ) (e : Entry Value) → getElem? es i ≡ some e → entryIn i ≡ e)

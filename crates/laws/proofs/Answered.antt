@@ -20,8 +20,8 @@ use Rattle.laws.specs.Bits.{someOf}
 use Rattle.laws.specs.Profiles.{Profile, Verdict, covered, uncovered, RightVerdict, verdict, values}
 use Rattle.laws.specs.Profiles.{HoldsSets, HoldsProfiles, setTable, profileTable}
 use Rattle.laws.specs.Opposite.{Arrow, sorted, written, blockProfiles, flags, stateCount, arrows, arrowCount, opposite, Opposed}
-use Rattle.laws.specs.Answers.{ClosingAnswer, closingAnswer, closingOf, uAndV, words, verdictFrom, verdictAnswer, oppositeFrom, oppositeAnswer}
-use Rattle.laws.specs.Answers.{CourseAnswer}
+use Rattle.laws.specs.Answers.{ClosingAnswer, closingAnswer, closingOf, uAndV, words, verdictFrom, verdictAnswer}
+use Rattle.laws.specs.Answers.{oppositeFrom, oppositeAnswer, CourseAnswer}
 use Rattle.laws.proofs.Booleans.{or-left, or-right, same-test, not-nothing}
 use Rattle.laws.proofs.Tables.{up-to}
 use Rattle.laws.proofs.Complete.{set-steps, profile-steps, sets-closing, profiles-closing, closed as tables-closed}
@@ -348,7 +348,8 @@ module _ (K : Kind) (m : Model) (a b : ℕ) where
       where
         go : (n : ℕ) (l : Bool) → C .number ≡ n → (ltb s states || ltb r lines) ≡ l
             → getElem? (oppositeAnswer K m a b s r .arrows) i ≡ some e
-            → (e .from < length (oppositeAnswer K m a b s r .flags)) × (e .event < m .k) × (e .to < length (oppositeAnswer K m a b s r .flags))
+            → (e .from < length (oppositeAnswer K m a b s r .flags)) × (e .event < m .k)
+            × (e .to < length (oppositeAnswer K m a b s r .flags))
         go (suc n) l p f = rw (p, oppositeFrom) (λ h. absurd (not-nothing h))
         go zero true p f = rw (p, f, oppositeFrom) (λ h. absurd (not-nothing h))
         go zero false p f =

@@ -62,7 +62,7 @@ module _ (f : ℕ → Bool) where
 
   pub below-some : (n : ℕ) → someBelow n f ≡ true → (i : ℕ) × (i < n) × (f i ≡ true)
   unfolding someBelow
-  below-some zero e = absurd (false≢true e)
+  below-some zero e = never e
   below-some (suc n) e =
       ⊎-elim
       (λ l. let (i, h, t) = below-some n l in (i, omega arith, t))

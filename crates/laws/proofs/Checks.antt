@@ -11,7 +11,7 @@ use lib.Dec.{ltb}
 use borrow.Author.Tests.{not-false, ltb-true}
 use Rattle.laws.specs.Bits.{everyOf, counted, gather, eachBelow}
 use Rattle.laws.specs.Refusals.{Check, firstOf, Passed, Stopped, fault}
-use Rattle.laws.proofs.Booleans.{less, and-left, and-right}
+use Rattle.laws.proofs.Booleans.{less, either, and-left, and-right}
 
 -- what is listed for each number below k + 1 is what is listed for each below k, and then for k
 pub each-further : {A : Type 0} (k : ℕ) (f : ℕ → List A) → eachBelow (suc k) f ≡ eachBelow k f ++ f k
@@ -32,7 +32,7 @@ each-same zero f g h = refl
 each-same (suc k) f g h =
     each-further k f ∙ ap₂ _++_ (each-same k f g (λ a l. h a (omega arith))) (h k (omega arith)) ∙ sym (each-further k g)
 
-pub passed-none : Passed []
+passed-none : Passed []
 passed-none rest = refl
 
 -- a single check by its test
@@ -47,15 +47,15 @@ module _ (number offset : ℕ) {applies : Bool} where
 
 module _ (xs ys : List Check) where
   -- two lists of which none applies
-  pub passed-both : Passed xs → Passed ys → Passed (xs ++ ys)
+  passed-both : Passed xs → Passed ys → Passed (xs ++ ys)
   passed-both p q rest = ap firstOf (append-assoc xs ys rest) ∙ p (ys ++ rest) ∙ q rest
 
   -- the first of them passed, the second decides
-  pub stopped-behind : {number offset : ℕ} → Passed xs → Stopped ys number offset → Stopped (xs ++ ys) number offset
+  stopped-behind : {number offset : ℕ} → Passed xs → Stopped ys number offset → Stopped (xs ++ ys) number offset
   stopped-behind p s rest = ap firstOf (append-assoc xs ys rest) ∙ p (ys ++ rest) ∙ s rest
 
   -- and behind the one that decides none is asked
-  pub stopped-before : {number offset : ℕ} → Stopped xs number offset → Stopped (xs ++ ys) number offset
+  stopped-before : {number offset : ℕ} → Stopped xs number offset → Stopped (xs ++ ys) number offset
   stopped-before s rest = ap firstOf (append-assoc xs ys rest) ∙ s (ys ++ rest)
 
 -- what a whole list comes to
@@ -69,25 +69,31 @@ first-stops checks s = ap firstOf (sym (append-nil checks)) ∙ s []
 
 -- of two lists of checks the first decides, if it comes to a number
 pub first-decides : (xs ys : List Check) → (firstOf xs .number ≡ 0 → ⊥) → firstOf (xs ++ ys) ≡ firstOf xs
-unfolding firstOf
+unfolding firstOf fault
 first-decides [] ys h = absurd (h refl)
-first-decides (x ∷ xs) ys h = go (x .applies) refl (first-decides xs ys)
-  where
-    go : (b : Bool) → x .applies ≡ b → ((firstOf xs .number ≡ 0 → ⊥) → firstOf (xs ++ ys) ≡ firstOf xs)
-        → firstOf (x ∷ xs ++ ys) ≡ firstOf (x ∷ xs)
-    go true e more = rw (e, firstOf)
-    go false e more = rw (e, firstOf) (more (λ z. h (rw (e, firstOf) z)))
+first-decides (x ∷ xs) ys h =
+    ⊎-elim
+    (λ e. let stops = stopped-check (x .number) (x .offset) e in stops (xs ++ ys) ∙ sym (stops xs))
+    (λ e.
+    let passes = passed-check (x .number) (x .offset) e in
+    passes (xs ++ ys) ∙ first-decides xs ys (λ z. h (ap (λ f. f .number) (passes xs) ∙ z)) ∙ sym (passes xs))
+    (either (x .applies))
 
 -- and else the second, where the first has no check with number 0
 pub second-decides : (xs ys : List Check) → everyOf (λ c. ltb 0 (c .number)) xs ≡ true → firstOf xs .number ≡ 0
     → firstOf (xs ++ ys) ≡ firstOf ys
-unfolding firstOf everyOf
+unfolding everyOf fault
 second-decides [] ys h z = refl
-second-decides (x ∷ xs) ys h z = go (x .applies) refl (second-decides xs ys (and-right (ltb 0 (x .number)) _ h))
-  where
-    go : (b : Bool) → x .applies ≡ b → (firstOf xs .number ≡ 0 → firstOf (xs ++ ys) ≡ firstOf ys) → firstOf (x ∷ xs ++ ys) ≡ firstOf ys
-    go true e more = absurd (omega (arith, ltb-true 0 (x .number) (and-left (ltb 0 (x .number)) _ h), rw (e, firstOf) at z))
-    go false e more = rw (e, firstOf) (more (rw (e, firstOf) at z))
+second-decides (x ∷ xs) ys h z =
+    let number : ℕ = x .number in
+    ⊎-elim
+    (λ e.
+    let none : number ≡ 0 = ap (λ f. f .number) (sym (stopped-check number (x .offset) e xs)) ∙ z in
+    absurd (omega (arith, ltb-true 0 number (and-left (ltb 0 number) _ h))))
+    (λ e.
+    let passes = passed-check number (x .offset) e in
+    passes (xs ++ ys) ∙ second-decides xs ys (and-right (ltb 0 number) _ h) (ap (λ f. f .number) (sym (passes xs)) ∙ z))
+    (either (x .applies))
 
 -- where the list and what follows come to number 0, none of the list applies, as P says, and what follows comes to number 0
 abbrev pub Shows : List Check → Type 0 → Type 0
@@ -98,7 +104,7 @@ unfolding firstOf fault
 shows-check number offset true rest h = absurd (omega arith)
 shows-check number offset false rest h = (refl, h)
 
-pub shows-both : {P Q : Type 0} (xs ys : List Check) → Shows xs P → Shows ys Q → Shows (xs ++ ys) (P × Q)
+shows-both : {P Q : Type 0} (xs ys : List Check) → Shows xs P → Shows ys Q → Shows (xs ++ ys) (P × Q)
 shows-both xs ys s t rest h =
     let (p, h₁) = s (ys ++ rest) (rw append-assoc at h) in
     let (q, h₂) = t rest h₁ in
@@ -142,7 +148,7 @@ module _ (f : ℕ → List Check) where
 
 -- the checks of a field: its form, with number 8, comes before its values
 module _ (o number offset : ℕ) (form wrong : Bool) where
-  abbrev pub fieldChecks : List Check
+  abbrev fieldChecks : List Check
   fieldChecks = fault 8 o (not form) ∷ fault number offset wrong ∷ []
 
   pub passed-field : form ≡ true → wrong ≡ false → Passed fieldChecks

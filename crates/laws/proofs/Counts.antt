@@ -4,14 +4,15 @@ use Prim.Native.Nat.{ℕ, suc, _+_, _*_, _<_}
 use native.Mathlib.Nat.{mul-add, add-mul, suc-mul, mul-comm, mul-assoc, zero-mul, mul-zero}
 use native.Mathlib.Omega.{arith}
 use mathlib.Core.Path.{_≡_, refl, ap, ap₂, _∙_}
-use mathlib.Core.Bool.{Bool, true, false, cond, false≢true}
+use mathlib.Core.Bool.{Bool, true, false, cond}
 use mathlib.Core.List.{List, [], _∷_, List·Memᴰ as Member, List·Memᴰ·head as head, List·Memᴰ·tail as tail}
 use lib.ListN.{length, replicate, length-append, length-replicate, length-map}
-use Rattle.laws.specs.Bits.{counted, someOf, keep, total, count, gather, eachBelow}
+use Rattle.laws.specs.Bits.{counted, keep, total, count, gather, eachBelow}
 use Rattle.laws.specs.Model.{Machine}
 use Rattle.laws.specs.Profiles.{Profile, sameProfile, join, eventProfile}
-use Rattle.laws.specs.Opposite.{Arrow, rejectsNonEmpty, gate, inBlock, onto, blockProfiles, pairCount, flags, stateCount}
-use Rattle.laws.specs.Opposite.{fromSet, fromGate, fromState, fromBlock, secondCount, arrows, arrowCount}
+use Rattle.laws.specs.Opposite.{Arrow, rejectsNonEmpty, gate, inBlock, onto, hasBlock, blockProfiles, pairCount, flags}
+use Rattle.laws.specs.Opposite.{stateCount, fromSet, fromGate, fromState, fromBlock, secondCount, arrows, arrowCount}
+use Rattle.laws.proofs.Booleans.{never}
 use Rattle.laws.proofs.Complete.{Closed}
 use Rattle.laws.proofs.Members.{member-some, length-counted}
 use Rattle.laws.proofs.Numbered.{drawn, stands-below}
@@ -50,7 +51,7 @@ module _ {A : Type 0} where
       go : (b c : Bool) → g x ≡ c → (g x ≡ true → b ≡ true) → count g (keep f xs) ≡ count g xs
           → count g (cond b (x ∷ keep f xs) (keep f xs)) ≡ cond (g x) 1 0 + count g xs
       go true c e h r = ap (λ n. cond (g x) 1 0 + n) r
-      go false true e h r = absurd (false≢true (h e))
+      go false true e h r = never (h e)
       go false false e h r = rw e (omega arith)
 
   -- the length of a list of one element, if b
@@ -127,7 +128,7 @@ module _ (W : ℕ) (M : Machine ℕ) (k : ℕ) (Ps : List ℕ) (ts : List Profil
   all-have-blocks : (P : ℕ) → Member P Ps → count (rejectsNonEmpty W P) (blockProfiles W Ps ts) ≡ count (rejectsNonEmpty W P) ts
   unfolding blockProfiles
   all-have-blocks P m =
-      count-kept (λ t. someOf (λ Q. rejectsNonEmpty W Q t) Ps) (rejectsNonEmpty W P) ts (λ t. member-some (λ Q. rejectsNonEmpty W Q t) m)
+      count-kept (hasBlock W Ps) (rejectsNonEmpty W P) ts (λ t. member-some (λ Q. rejectsNonEmpty W Q t) m)
 
   -- the arrows of the sets
   length-sets : length (gather (λ i P. eachBelow k (fromSet W M Ps ts (blockProfiles W Ps ts) i P)) 0 Ps)

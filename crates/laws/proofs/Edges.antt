@@ -10,7 +10,9 @@ use Rattle.laws.specs.Words.{Word, before, power}
 use Rattle.laws.specs.Model.{Model, eight}
 use Rattle.laws.specs.Profiles.{uncovered}
 use Rattle.laws.specs.Refusals.{firstOf, courseChecks}
-use Rattle.laws.specs.Answers.{SetSlices, ProfileSlices, OppositeSlices, setRoom, profileRoom, stateRoom, arrowRoom, setSlices, profileSlices, oppositeSlices, VerdictAnswer, verdictAnswer, oppositeAnswer, words, closingIn, verdictIn, oppositeIn, wordMemory}
+use Rattle.laws.specs.Answers.{SetSlices, ProfileSlices, OppositeSlices, setRoom, profileRoom, stateRoom, arrowRoom}
+use Rattle.laws.specs.Answers.{setSlices, profileSlices, oppositeSlices, VerdictAnswer, verdictAnswer, oppositeAnswer, words}
+use Rattle.laws.specs.Answers.{closingIn, verdictIn, oppositeIn, wordMemory}
 use Rattle.laws.specs.HandWorked.{_⇒_, event, mask, A, C, D}
 use Rattle.laws.proofs.Computed.{computed}
 
@@ -100,14 +102,19 @@ c-opposites = refl
 courseNumber : Model → Word → Word → ℕ
 courseNumber m u v = firstOf (courseChecks eight m u v) .number
 
-courses : courseNumber C [] (1 ∷ []) ∷ courseNumber C [] [] ∷ courseNumber C (2 ∷ []) [] ∷ courseNumber C (2 ∷ []) (0 ∷ []) ∷ courseNumber C [] (0 ∷ 2 ∷ [])
+courses : courseNumber C [] (1 ∷ []) ∷ courseNumber C [] []
+    ∷ courseNumber C (2 ∷ []) [] ∷ courseNumber C (2 ∷ []) (0 ∷ []) ∷ courseNumber C [] (0 ∷ 2 ∷ [])
     ∷ courseNumber (given 9 1 0 0 (0 ∷ [])) [] [] ∷ courseNumber (given 1 1 0 0 []) [] [] ∷ courseNumber (given 1 1 2 0 (0 ∷ [])) [] [] ∷ []
     ≡ 0 ∷ 10 ∷ 10 ∷ 9 ∷ 9 ∷ 1 ∷ 2 ∷ 3 ∷ []
 unfolding computed courseNumber given
 courses = refl
 
 -- the order of words: the shorter first, then the lower at the first difference; no word is before itself
-order : before [] (0 ∷ []) ∷ before (9 ∷ []) (0 ∷ 0 ∷ []) ∷ before (0 ∷ 9 ∷ []) (1 ∷ 0 ∷ []) ∷ before (1 ∷ 0 ∷ []) (0 ∷ 9 ∷ []) ∷ before (2 ∷ 0 ∷ []) (2 ∷ 1 ∷ []) ∷ before (0 ∷ 0 ∷ []) (9 ∷ []) ∷ before (3 ∷ 1 ∷ []) (3 ∷ 1 ∷ []) ∷ []
+order : before [] (0 ∷ []) ∷ before (9 ∷ []) (0 ∷ 0 ∷ [])
+    ∷ before (0 ∷ 9 ∷ []) (1 ∷ 0 ∷ []) ∷ before (1 ∷ 0 ∷ []) (0 ∷ 9 ∷ [])
+    ∷ before (2 ∷ 0 ∷ []) (2 ∷ 1 ∷ []) ∷ before (0 ∷ 0 ∷ []) (9 ∷ [])
+    ∷ before (3 ∷ 1 ∷ []) (3 ∷ 1 ∷ [])
+    ∷ []
     ≡ true ∷ true ∷ true ∷ false ∷ true ∷ false ∷ false ∷ []
 unfolding computed
 order = refl
@@ -202,7 +209,10 @@ one-set = record { masks = lent 4; from = lent 4; event = lent 1 }
 no-profile : ProfileSlices
 no-profile = record { arrows = lent 4; marks = lent 0; from = lent 4; event = lent 4 }
 
-d-closing : closingIn eight D one-set lent-profiles .number ∷ closingIn eight D lent-sets no-profile .number ∷ closingIn eight D lent-sets lent-profiles .number ∷ []
+d-closing : closingIn eight D one-set lent-profiles .number
+    ∷ closingIn eight D lent-sets no-profile .number
+    ∷ closingIn eight D lent-sets lent-profiles .number
+    ∷ []
     ≡ 4 ∷ 5 ∷ 0 ∷ []
 unfolding computed lent lent-sets lent-profiles one-set no-profile
 d-closing = refl

@@ -51,7 +51,7 @@ module _ (bytes : List ℕ) (n : ℕ) where
         r,
       )
 
-  pub passed-event : (a : ℕ) → RightEvent bytes n a → Passed (eventChecks bytes n a)
+  passed-event : (a : ℕ) → RightEvent bytes n a → Passed (eventChecks bytes n a)
   unfolding eventChecks
   passed-event a e =
       let o : ℕ = eventOffset n a in

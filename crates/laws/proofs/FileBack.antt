@@ -13,7 +13,8 @@ use borrow.Author.Tests.{lt-ltb, le-ltb, le-leb, eq-eqb}
 use Rattle.laws.specs.Bits.{packedRow, fromRows, counted, someOf}
 use Rattle.laws.specs.Model.{eight, Model}
 use Rattle.laws.specs.Refusals.{maskBeyond, Unrefused}
-use Rattle.laws.specs.File.{head, field, endField, fileOf, eventOffset, byte, standAt, formed, value, masks, modelRead, reading}
+use Rattle.laws.specs.File.{head, field, endField, eventField, fileOf, eventOffset, byte, standAt, formed, value, masks}
+use Rattle.laws.specs.File.{modelRead, reading}
 use Rattle.laws.proofs.Booleans.{both}
 use Rattle.laws.proofs.Members.{length-counted}
 use Rattle.laws.proofs.Parts.{counted-same, counted-part, first-behind, part-there, parts-end}
@@ -63,33 +64,30 @@ none-made f g h [] = refl
 none-made f g h (x ∷ xs) = rw (h x, none-made f g h xs)
 
 module _ (m : Model) where
-  -- the masks of event a, and its field
+  -- the masks of event a
   abbrev rows : ℕ → List ℕ
   rows a = map (packedRow 8 (getD (m .arrows) a 0)) (counted 0 (m .n))
-
-  abbrev eventField : ℕ → List ℕ
-  eventField a = field 0x05 (a ∷ rows a)
 
   length-rows : (a : ℕ) → length (rows a) ≡ m .n
   length-rows a = length-map (counted 0 (m .n)) (packedRow 8 (getD (m .arrows) a 0)) ∙ length-counted 0 (m .n)
 
-  length-field : (a : ℕ) → length (eventField a) ≡ m .n + 4
-  unfolding field head
+  length-field : (a : ℕ) → length (eventField m a) ≡ m .n + 4
+  unfolding eventField field head
   length-field a = omega (arith, length-rows a)
 
   -- the field of event a stands at its offset, the end field behind all of them
-  event-there : (a : ℕ) → a < m .k → (rest : List ℕ) × (drop (eventOffset (m .n) a) (fileOf m) ≡ eventField a ++ rest)
+  event-there : (a : ℕ) → a < m .k → (rest : List ℕ) × (drop (eventOffset (m .n) a) (fileOf m) ≡ eventField m a ++ rest)
   unfolding fileOf field head eventOffset
   event-there a l =
-      let (rest, e) = part-there eventField (m .n + 4) length-field endField (m .k) a l in
+      let (rest, e) = part-there (eventField m) (m .n + 4) length-field endField (m .k) a l in
       (rest, sym (drop-drop (a * (m .n + 4)) 16 (fileOf m)) ∙ e)
 
   end-there : drop (eventOffset (m .n) (m .k)) (fileOf m) ≡ endField
   unfolding fileOf field head eventOffset
-  end-there = sym (drop-drop (m .k * (m .n + 4)) 16 (fileOf m)) ∙ parts-end eventField (m .n + 4) length-field endField (m .k)
+  end-there = sym (drop-drop (m .k * (m .n + 4)) 16 (fileOf m)) ∙ parts-end (eventField m) (m .n + 4) length-field endField (m .k)
 
   masks-there : (a : ℕ) → a < m .k → masks (fileOf m) (m .n) a ≡ rows a
-  unfolding masks
+  unfolding masks eventField
   masks-there a l =
       let (rest, e) = event-there a l in
       field-behind (fileOf m) (eventOffset (m .n) a) 0x05 a (rows a) rest e (m .n) (length-rows a)
@@ -101,6 +99,7 @@ module _ (m : Model) where
   module _ (u : Unrefused eight m) where
     -- nothing is wrong in the field of event a
     right-event : (a : ℕ) → a < m .k → RightEvent (fileOf m) (m .n) a
+    unfolding eventField
     right-event a l =
         let (rest, e) = event-there a l in
         let x = getD (m .arrows) a 0 in

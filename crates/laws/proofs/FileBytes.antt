@@ -13,7 +13,7 @@ use borrow.Author.Tests.{ltb-false, leb-true, le-leb}
 use Rattle.laws.specs.Bits.{fromRows, counted, someOf, gather, eachBelow}
 use Rattle.laws.specs.Model.{Model}
 use Rattle.laws.specs.Refusals.{Check, Fault, firstOf, fault, outside, maskBeyond}
-use Rattle.laws.specs.File.{head, endField, eventOffset, byte, standAt, formed, value, masks, modelRead, Reading, reading}
+use Rattle.laws.specs.File.{head, endField, eventOffset, byte, standAt, formed, value, masks, modelRead, found, reading}
 use Rattle.laws.specs.File.{numberChecks, maskChecks, eventChecks, endChecks, frontChecks, fileChecks}
 use Rattle.laws.proofs.Booleans.{same-test}
 use Rattle.laws.proofs.Unrefused.{in-range}
@@ -36,20 +36,14 @@ agree-first none = refl
 agree-first (next {b = true} e rest) = rw e
 agree-first (next {b = false} e rest) = rw e (agree-first (rest refl))
 
--- what a reader finds with a fault and a model: the model counts only with number 0
-abbrev found : Fault → Model → Reading
-found f m =
-    elim (f .number) [
-      | zero ↦ record { fault = f; model = m }
-      | suc _ ↦ record { fault = f; model = record { n = 0; k = 0; start = 0; home = 0; arrows = [] } }
-    ]
-
+-- what a reader finds depends on the model with number 0 only
 found-same : (f : Fault) (m m′ : Model) → (f .number ≡ 0 → m ≡ m′) → found f m ≡ found f m′
+unfolding found
 found-same f m m′ h = go (f .number) refl
   where
     go : (number : ℕ) → f .number ≡ number → found f m ≡ found f m′
     go zero e = ap (found f) (h e)
-    go (suc number) e = rw e
+    go (suc number) e = rw (e, found)
 
 module _ (N : ℕ) (bytes : List ℕ) where
   -- the first N bytes reach as far as the bytes, up to N
@@ -136,7 +130,7 @@ module _ (N : ℕ) (bytes : List ℕ) where
         let f = faultless bytes n k room h in
         enough n k (in-range 8 n .0 (f .n-inside) .1) (in-range 16 k .0 (f .k-inside) .1)
 
-    pub reading-same : reading (take N bytes) room ≡ reading bytes room
+    reading-same : reading (take N bytes) room ≡ reading bytes room
     unfolding reading
     reading-same =
         ap₂ (λ n k. found (firstOf (fileChecks (take N bytes) n k room)) (modelRead (take N bytes) n k))

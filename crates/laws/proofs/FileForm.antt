@@ -9,16 +9,17 @@ use mathlib.Core.Logic.{⊎-elim}
 use mathlib.Core.List.{List, [], _∷_, _++_, map, append-assoc}
 use lib.ListN.{length, getD, take, drop, length-map, length-drop, take-append-drop, drop-of-length-le, List·getD-eq-default}
 use lib.Seq.{drop-cons, drop-drop, getD-take, length-take-le, ext-getD}
+use lib.Pow.{pow-pos}
 use lib.Dec.{eqb, ltb, leb}
 use borrow.Author.Tests.{ltb-true, ltb-false, leb-true, eqb-true}
 use Rattle.laws.specs.Bits.{bit, cell, packedRow, fromRows, counted, gather, eachBelow}
 use Rattle.laws.specs.Model.{eight, Model}
 use Rattle.laws.specs.Refusals.{Fault, firstOf, maskBeyond, Unrefused}
-use Rattle.laws.specs.File.{head, field, endField, fileOf, eventOffset, byte, standAt, formed, value, masks}
-use Rattle.laws.specs.File.{fileChecks, modelRead, Reading, reading}
+use Rattle.laws.specs.File.{head, field, endField, eventField, fileOf, eventOffset, byte, standAt, formed, value, masks}
+use Rattle.laws.specs.File.{fileChecks, modelRead, found, reading}
 use Rattle.laws.proofs.Booleans.{never, either, and-left, and-right}
 use Rattle.laws.proofs.Members.{length-counted, at-counted}
-use Rattle.laws.proofs.Packing.{positive, no-bit, bit-inside, row-of-rows, cell-of-rows}
+use Rattle.laws.proofs.Packing.{no-bit, bit-inside, row-of-rows, cell-of-rows}
 use Rattle.laws.proofs.Unrefused.{none-meets, in-range, mask-below, mask-inside}
 use Rattle.laws.proofs.Read.{withArrows, event-same}
 use Rattle.laws.proofs.Checks.{each-further, each-same}
@@ -26,7 +27,7 @@ use Rattle.laws.proofs.Faultless.{RightEvent, Faultless, faultless}
 
 module _ (bytes : List ℕ) where
   -- bytes that stand at an offset are the next ones
-  pub stands : (o : ℕ) (xs : List ℕ) → standAt bytes o xs ≡ true → drop o bytes ≡ xs ++ drop (o + length xs) bytes
+  stands : (o : ℕ) (xs : List ℕ) → standAt bytes o xs ≡ true → drop o bytes ≡ xs ++ drop (o + length xs) bytes
   unfolding standAt byte
   stands o [] e = rw add-zero
   stands o (x ∷ xs) e =
@@ -42,7 +43,7 @@ module _ (bytes : List ℕ) where
   whole o tag size e = leb-true (o + 3 + size) (length bytes) (and-right (standAt bytes o (head tag size)) _ e)
 
   -- a field is the next bytes: its value is its first byte and the rest
-  pub field-read : (o tag rest : ℕ) → formed bytes o tag (rest + 1) ≡ true
+  field-read : (o tag rest : ℕ) → formed bytes o tag (rest + 1) ≡ true
       → drop o bytes ≡ field tag (value bytes o ∷ take rest (drop (o + 4) bytes)) ++ drop (o + 4 + rest) bytes
   unfolding formed field head value byte
   field-read o tag rest e =
@@ -70,16 +71,16 @@ module _ (bytes : List ℕ) (n a : ℕ) (right : RightEvent bytes n a) where
   enough = omega (arith, whole bytes (eventOffset n a) 0x05 (n + 1) (right .event-form), length-drop (eventOffset n a + 4) bytes)
 
   -- there are n masks, each below 2^n, and behind the last they read as 0
-  pub count-masks : length (masks bytes n a) ≡ n
+  count-masks : length (masks bytes n a) ≡ n
   unfolding masks
   count-masks = length-take-le n behind enough
 
-  pub no-mask : (p : ℕ) → n ≤ p → getD (masks bytes n a) p 0 ≡ 0
+  no-mask : (p : ℕ) → n ≤ p → getD (masks bytes n a) p 0 ≡ 0
   no-mask p l = List·getD-eq-default (masks bytes n a) 0 (omega (arith, count-masks))
 
-  pub mask-small : (p : ℕ) → getD (masks bytes n a) p 0 < 2 ^ n
+  mask-small : (p : ℕ) → getD (masks bytes n a) p 0 < 2 ^ n
   unfolding masks
-  mask-small p = ⊎-elim (λ t. there (ltb-true p n t)) (λ t. rw (no-mask p (ltb-false p n t)) (positive n)) (either (ltb p n))
+  mask-small p = ⊎-elim (λ t. there (ltb-true p n t)) (λ t. rw (no-mask p (ltb-false p n t)) (pow-pos n)) (either (ltb p n))
     where
       there : p < n → getD (masks bytes n a) p 0 < 2 ^ n
       there l =
@@ -87,7 +88,7 @@ module _ (bytes : List ℕ) (n a : ℕ) (right : RightEvent bytes n a) where
           (mask-below n (getD behind p 0) (none-meets (maskBeyond n) 0 behind n p (right .masks-inside) l (omega (arith, enough))))
 
 -- the rows of the number of n rows are these rows
-pub rows-back : (W n : ℕ) (rs : List ℕ) → length rs ≡ n → ((i : ℕ) → getD rs i 0 < 2 ^ W)
+rows-back : (W n : ℕ) (rs : List ℕ) → length rs ≡ n → ((i : ℕ) → getD rs i 0 < 2 ^ W)
     → map (packedRow W (fromRows W rs)) (counted 0 n) ≡ rs
 rows-back W n rs size h =
     let row : ℕ → ℕ = packedRow W (fromRows W rs) in
@@ -121,11 +122,8 @@ module _ (bytes : List ℕ) (room : ℕ) (f : Faultless bytes (value bytes 0) (v
   count-arrows = length-map (counted 0 k) (λ a. fromRows 8 (masks bytes n a)) ∙ length-counted 0 k
 
   -- the field of an event in the file of the model is the one that was read
-  abbrev eventField : ℕ → List ℕ
-  eventField a = field 0x05 (a ∷ map (packedRow 8 (getD (m .arrows) a 0)) (counted 0 n))
-
-  event-read : (a : ℕ) → a < k → drop (eventOffset n a) bytes ≡ eventField a ++ drop (eventOffset n (suc a)) bytes
-  unfolding eventOffset masks
+  event-read : (a : ℕ) → a < k → drop (eventOffset n a) bytes ≡ eventField m a ++ drop (eventOffset n (suc a)) bytes
+  unfolding eventOffset masks eventField modelRead
   event-read a l =
       let right : RightEvent bytes n a = f .events a l in
       let rows : map (packedRow 8 (getD (m .arrows) a 0)) (counted 0 n) ≡ masks bytes n a =
@@ -135,14 +133,14 @@ module _ (bytes : List ℕ) (room : ℕ) (f : Faultless bytes (value bytes 0) (v
       ∙ ap₂ (λ v o. field 0x05 v ++ drop o bytes) (ap₂ _∷_ (right .event-number) (sym rows)) next
 
   -- the fields of the first j events
-  events-read : (j : ℕ) → j ≤ k → drop 16 bytes ≡ eachBelow j eventField ++ drop (eventOffset n j) bytes
+  events-read : (j : ℕ) → j ≤ k → drop 16 bytes ≡ eachBelow j (eventField m) ++ drop (eventOffset n j) bytes
   unfolding eachBelow gather counted eventOffset
   events-read zero l = let none : 16 ≡ eventOffset n 0 = omega arith in ap (λ o. drop o bytes) none
   events-read (suc j) l =
       events-read j (omega arith)
-      ∙ ap (λ xs. eachBelow j eventField ++ xs) (event-read j l)
-      ∙ sym (append-assoc (eachBelow j eventField) (eventField j) (drop (eventOffset n (suc j)) bytes))
-      ∙ ap (λ xs. xs ++ drop (eventOffset n (suc j)) bytes) (sym (each-further j eventField))
+      ∙ ap (λ xs. eachBelow j (eventField m) ++ xs) (event-read j l)
+      ∙ sym (append-assoc (eachBelow j (eventField m)) (eventField m j) (drop (eventOffset n (suc j)) bytes))
+      ∙ ap (λ xs. xs ++ drop (eventOffset n (suc j)) bytes) (sym (each-further j (eventField m)))
 
   -- all fields
   form : bytes ≡ fileOf m
@@ -152,7 +150,7 @@ module _ (bytes : List ℕ) (room : ℕ) (f : Faultless bytes (value bytes 0) (v
       (field-read bytes 4 0x02 0 (f .k-form) ∙ ap (λ xs. field 0x02 (k ∷ []) ++ xs)
       (field-read bytes 8 0x03 0 (f .start-form) ∙ ap (λ xs. field 0x03 (value bytes 8 ∷ []) ++ xs)
       (field-read bytes 12 0x04 0 (f .home-form) ∙ ap (λ xs. field 0x04 (value bytes 12 ∷ []) ++ xs)
-      (events-read k (omega arith) ∙ ap (λ xs. eachBelow k eventField ++ xs)
+      (events-read k (omega arith) ∙ ap (λ xs. eachBelow k (eventField m) ++ xs)
       (end-read bytes (eventOffset n k) (f .end) (f .nothing-behind))))))
 
   -- a bit of mask p says that p and its place are states
@@ -182,6 +180,19 @@ module _ (bytes : List ℕ) (room : ℕ) (f : Faultless bytes (value bytes 0) (v
             (sym (cell-of-rows 8 (masks bytes n a) (masks-below a l) p q w) ∙ ap (λ x. cell 8 x p q) (sym (arrows-at a l)) ∙ b);
       }
 
+-- what is found tells the fault, and with number 0 the model
+found-fault : (f : Fault) (x : Model) → found f x .fault ≡ f
+unfolding found
+found-fault f x = go (f .number)
+  where
+    go : (number : ℕ) → let g : Fault = record { number = number; offset = f .offset } in found g x .fault ≡ g
+    go zero = refl
+    go (suc number) = refl
+
+found-model : (f : Fault) (x : Model) → f .number ≡ 0 → found f x .model ≡ x
+unfolding found
+found-model f x e = rw (e, found)
+
 module _ (bytes : List ℕ) (room : ℕ) where
   abbrev first : Fault
   first = firstOf (fileChecks bytes (value bytes 0) (value bytes 4) room)
@@ -189,19 +200,10 @@ module _ (bytes : List ℕ) (room : ℕ) where
   abbrev inFile : Model
   inFile = modelRead bytes (value bytes 0) (value bytes 4)
 
-  found : (reading bytes room .fault ≡ first) × (first .number ≡ 0 → reading bytes room .model ≡ inFile)
-  unfolding reading
-  found = go (first .number) (record { n = 0; k = 0; start = 0; home = 0; arrows = [] })
-    where
-      go : (x : ℕ) (none : Model)
-          → let r : Reading = elim x [ zero ↦ record { fault = first; model = inFile } | suc _ ↦ record { fault = first; model = none } ] in
-          (r .fault ≡ first) × (x ≡ 0 → r .model ≡ inFile)
-      go zero none = (refl, λ e. refl)
-      go (suc x) none = (refl, λ e. absurd (omega arith))
-
   -- what is found is the first fault of all fields
   pub read-fault : reading bytes room .fault ≡ firstOf (fileChecks bytes (value bytes 0) (value bytes 4) room)
-  read-fault = found .0
+  unfolding reading
+  read-fault = found-fault first inFile
 
   -- with number 0 the file has no fault, and the model in it is read
   module _ (h : reading bytes room .fault .number ≡ 0) where
@@ -212,7 +214,8 @@ module _ (bytes : List ℕ) (room : ℕ) where
     read-faultless = faultless bytes (value bytes 0) (value bytes 4) room number-0
 
     pub read-model : reading bytes room .model ≡ modelRead bytes (value bytes 0) (value bytes 4)
-    read-model = found .1 number-0
+    unfolding reading
+    read-model = found-model first inFile number-0
 
     -- THE EXACT FORM IS THE ONLY ONE: the file is, byte for byte, that of the model that was read
     pub form-read : fileOf (reading bytes room .model) ≡ bytes
@@ -236,11 +239,7 @@ one-model bytes bytes′ room room′ h h′ same = sym (form-read bytes room h)
 
 -- ONLY THE FIRST k ARROW NUMBERS are part of the file
 pub form-first : (m : Model) (xs : List ℕ) → take (m .k) (m .arrows) ≡ take (m .k) xs → fileOf m ≡ fileOf (withArrows m xs)
-unfolding fileOf
-form-first m xs same = rw fields
-  where
-    eventFields : List ℕ → List ℕ
-    eventFields arrows = eachBelow (m .k) (λ a. field 0x05 (a ∷ map (packedRow 8 (getD arrows a 0)) (counted 0 (m .n))))
-
-    fields : eventFields (m .arrows) ≡ eventFields xs
-    fields = each-same (m .k) _ _ (λ a l. ap (λ x. field 0x05 (a ∷ map (packedRow 8 x) (counted 0 (m .n)))) (event-same m xs same a l))
+unfolding fileOf eventField
+form-first m xs same =
+    rw (each-same (m .k) (eventField m) (eventField (withArrows m xs))
+    (λ a l. ap (λ x. field 0x05 (a ∷ map (packedRow 8 x) (counted 0 (m .n)))) (event-same m xs same a l)))

@@ -31,7 +31,7 @@ c-cuts : map (λ i. faultOf (take i (fileOf C))) (counted 0 31)
 unfolding computed faultOf
 c-cuts = refl
 
--- one byte too many; n, k, masks and event fields damaged one at a time: high length byte, tag, event number, a mask beyond n, the end field
+-- one byte too many; n, k, masks and event fields damaged one at a time: high length byte, tag, event number, a mask beyond n, end field
 c-damaged : map faultOf
     ((fileOf C ++ (0 ∷ []))
     ∷ changed 0 0x11 ∷ changed 1 0 ∷ changed 2 1 ∷ changed 3 0 ∷ changed 3 9
@@ -53,7 +53,8 @@ unfolding computed faultOf changed
 c-damaged = refl
 
 -- within a field the form comes before the values, and an earlier field before a later one
-c-twice : map faultOf (set (changed 3 9) 0 2 ∷ set (changed 3 9) 7 17 ∷ set (changed 11 4) 8 4 ∷ set (changed 20 4) 19 1 ∷ set (changed 20 4) 26 4 ∷ [])
+c-twice : map faultOf
+    (set (changed 3 9) 0 2 ∷ set (changed 3 9) 7 17 ∷ set (changed 11 4) 8 4 ∷ set (changed 20 4) 19 1 ∷ set (changed 20 4) 26 4 ∷ [])
     ≡ (8 ∷ 0 ∷ []) ∷ (1 ∷ 0 ∷ []) ∷ (8 ∷ 8 ∷ []) ∷ (8 ∷ 16 ∷ []) ∷ (3 ∷ 16 ∷ []) ∷ []
 unfolding computed faultOf changed
 c-twice = refl

@@ -4,14 +4,14 @@ use Prim.Native.Nat.{ℕ, _*_, _<_, _^_}
 use mathlib.Core.Path.{_≡_, refl, sym, ap, ap₂, _∙_}
 use mathlib.Core.Bool.{Bool, true, false, _&&_, _||_, and-eq-true-iff}
 use mathlib.Core.Logic.{_⊎_, inl, inr, ⊎-elim}
+use lib.Pow.{pow-pos}
 use lib.Dec.{eqb}
 use borrow.Author.Tests.{eqb-true, eq-eqb}
 use Rattle.laws.specs.Bits.{bit, someBelow}
 use Rattle.laws.specs.Model.{Machine}
 use Rattle.laws.specs.Profiles.{Profile, sameProfile, leadsTo, marked, join, image, after, eventProfile}
 use Rattle.laws.proofs.Booleans.{or-left, or-right, or-cases, both, same-test, never, some-below, below-both, some-same}
-use Rattle.laws.proofs.Packing.{bit-fromBits, fromBits-below, fromBits-same, same-bits, no-bit, positive, cell-grid, grid-below}
-use Rattle.laws.proofs.Packing.{same-cells}
+use Rattle.laws.proofs.Packing.{bit-fromBits, fromBits-below, fromBits-same, same-bits, no-bit, cell-grid, grid-below, same-cells}
 
 -- the test for equal profiles tells exactly equal ones
 pub same-equal : (s t : Profile) → sameProfile s t ≡ true → s ≡ t
@@ -214,7 +214,7 @@ module _ (W : ℕ) where
   -- the empty set leads nowhere
   pub image-nothing : (t : Profile) → image W 0 t ≡ 0
   image-nothing t =
-      same-bits W (image W 0 t) 0 (image-below 0 t) (positive W)
+      same-bits W (image W 0 t) 0 (image-below 0 t) (pow-pos W)
       (λ q h. same-test (λ e. let (p, _, p-in, _) = image-from 0 t q h e in none p p-in) (none q))
     where
       none : {A : Type 0} (p : ℕ) → bit 0 p ≡ true → A

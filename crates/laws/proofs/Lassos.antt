@@ -6,11 +6,11 @@ use native.Mathlib.Nat.{zero-add, suc-add, zero-mul, suc-mul, mul-suc, mul-comm}
 use mathlib.Core.Path.{_≡_, refl, sym, ap, _∙_, subst}
 use mathlib.Core.Bool.{true}
 use mathlib.Core.Logic.{_⊎_, inl, inr, ⊎-elim}
-use mathlib.Core.List.{[], _∷_, _++_, append-assoc, append-nil}
+use mathlib.Core.List.{[], _++_, append-assoc, append-nil}
 use Rattle.laws.specs.Words.{Word, power}
-use Rattle.laws.specs.Model.{Machine, Path, stop, step, homed, Accepted}
-use Rattle.laws.proofs.Booleans.{or-left, or-right, or-cases}
-use Rattle.laws.proofs.Paths.{then, cut, HomePath, home-then, then-home}
+use Rattle.laws.specs.Model.{Machine, Path, stop, homed, Accepted}
+use Rattle.laws.proofs.Paths.{then, first-home, cut, HomePath, home-then, then-home}
+use Rattle.laws.proofs.Meaning.{cut-marked, marked-homed, homed-marked}
 
 -- v i times and then j times is v i + j times
 pub power-add : (i j : ℕ) (v : Word) → power (i + j) v ≡ power i v ++ power j v
@@ -45,13 +45,12 @@ module _ {S : Type 0} (M : Machine S) where
   -- a path with a home state, cut in two, has one in one of the parts
   cut-homed : (x y : Word) {p q : S} (s : Path M p (x ++ y) q) → homed M s ≡ true
       → (homed M (cut M x s .left) ≡ true) ⊎ (homed M (cut M x s .right) ≡ true)
-  unfolding homed cut
-  cut-homed [] y s h = inr h
-  cut-homed (a ∷ x) y (step {p = p} e s) h =
+  cut-homed x y s h =
+      let c = cut M x s in
       ⊎-elim
-      (λ f. inl (or-left (homed M (cut M x s .left)) f))
-      (λ l. ⊎-elim (λ f. inl (or-right (M .home p) f)) inr (cut-homed x y s l))
-      (or-cases (M .home p) (homed M s) h)
+      (λ f. inl (first-home M f (c .left)))
+      (λ m. ⊎-elim (λ l. inl (marked-homed M (c .left) l)) (λ r. inr (marked-homed M (c .right) r)) (cut-marked M x y s m))
+      (homed-marked M s h)
 
   -- a path that reads u from a start state, and a round with a home state that reads w from there
   record Lasso (u w : Word) : Type 0 where

@@ -3,13 +3,13 @@ use Prim.Native.Nat.{ℕ, _<_}
 use native.Mathlib.Omega.{arith}
 use mathlib.Core.Path.{_≡_, refl, sym, ap, _∙_, subst}
 use mathlib.Core.Logic.{⊎-elim}
-use mathlib.Core.Bool.{true, false, false≢true}
+use mathlib.Core.Bool.{true, false}
 use mathlib.Core.List.{[], _∷_, _++_}
 use mathlib.Core.Option.{Option, none, some}
 use lib.ListN.{length}
 use Rattle.laws.specs.Words.{Word, lettersBelow, before}
 use Rattle.laws.specs.Tables.{WordValue, Table, empty-word, Holds, noEntry, byEntries, begun, made, Steps}
-use Rattle.laws.proofs.Booleans.{either, inside, not-nothing}
+use Rattle.laws.proofs.Booleans.{either, inside, not-nothing, never}
 use Rattle.laws.proofs.Places.{element}
 use Rattle.laws.proofs.Order.{neither-before, none-before-empty, not-after-then, more-not-after, more-not-empty, letters-less}
 use Rattle.laws.proofs.Order.{from-the-end}
@@ -178,7 +178,7 @@ module _ {Value : Type 0} {Val : WordValue Value} (steps : Steps Val) (k room : 
   made-holds h = go made-ends
     where
       go : Ends Val k room (made Val k room) → Holds Val k (made Val k room .entries)
-      go (is-cut c m) = absurd (false≢true (sym h ∙ c))
+      go (is-cut c m) = never (sym h ∙ c)
       go (is-whole u t) = t
 
   -- one that is cut has found more values than room
@@ -187,4 +187,4 @@ module _ {Value : Type 0} {Val : WordValue Value} (steps : Steps Val) (k room : 
     where
       go : Ends Val k room (made Val k room) → More Val k room
       go (is-cut c m) = m
-      go (is-whole u t) = absurd (false≢true (sym u ∙ h))
+      go (is-whole u t) = never (sym u ∙ h)

@@ -52,7 +52,7 @@ module _ {S : Type 0} (M : Machine S) where
       (or-cases (M .home r) (markedPath M s) f)
   then-marked (step {r = r} e s) t (inr g) = or-right (M .home r) (then-marked s t (inr g))
 
-  cut-marked : (x y : Word) {p q : S} (s : Path M p (x ++ y) q) → markedPath M s ≡ true
+  pub cut-marked : (x y : Word) {p q : S} (s : Path M p (x ++ y) q) → markedPath M s ≡ true
       → (markedPath M (cut M x s .left) ≡ true) ⊎ (markedPath M (cut M x s .right) ≡ true)
   unfolding markedPath cut
   cut-marked [] y s h = inr h
@@ -63,14 +63,14 @@ module _ {S : Type 0} (M : Machine S) where
       (or-cases (M .home r) (markedPath M s) h)
 
   -- a marked path has a home state among its states
-  marked-homed : {p q : S} {w : Word} (s : Path M p w q) → markedPath M s ≡ true → homed M s ≡ true
+  pub marked-homed : {p q : S} {w : Word} (s : Path M p w q) → markedPath M s ≡ true → homed M s ≡ true
   unfolding markedPath homed
   marked-homed stop h = never h
   marked-homed (step {p = p} {r = r} e s) h =
       or-right (M .home p) (⊎-elim (λ f. first-home M f s) (marked-homed s) (or-cases (M .home r) (markedPath M s) h))
 
   -- a path with a home state is marked, or that state is its first
-  homed-marked : {p q : S} {w : Word} (s : Path M p w q) → homed M s ≡ true → (M .home p ≡ true) ⊎ (markedPath M s ≡ true)
+  pub homed-marked : {p q : S} {w : Word} (s : Path M p w q) → homed M s ≡ true → (M .home p ≡ true) ⊎ (markedPath M s ≡ true)
   unfolding markedPath homed
   homed-marked stop h = inl h
   homed-marked (step {p = p} {r = r} e s) h =

@@ -3,7 +3,7 @@ use Prim.Native.Nat.{ℕ, zero, suc, _+_, _<_}
 use native.Mathlib.Omega.{arith}
 use native.Mathlib.Nat.{add-zero, zero-add, suc-add, add-suc}
 use mathlib.Core.Path.{_≡_, refl, sym, ap, _∙_, subst}
-use mathlib.Core.Bool.{Bool, true, false, _||_, cond, false≢true}
+use mathlib.Core.Bool.{Bool, true, false, _||_, cond}
 use mathlib.Core.Logic.{_⊎_, inl, inr}
 use mathlib.Core.Option.{Option, some}
 use mathlib.Core.List.{List, [], _∷_, map, List·Memᴰ as Member, List·Memᴰ·head as head, List·Memᴰ·tail as tail}
@@ -11,8 +11,8 @@ use mathlib.Core.List.{List·Memᴰ·not-nil as not-nil, List·Memᴰ·eq-of-sin
 use mathlib.Core.List.{List·Memᴰ·append-cases as append-cases, Memᴰ·append-left as append-left, Memᴰ·append-right as append-right}
 use lib.ListN.{length, getD, getElem?}
 use Rattle.laws.specs.Bits.{counted, someOf, keep, gather, placeOf, eachBelow}
-use Rattle.laws.proofs.Booleans.{or-left, or-right, not-nothing, inside}
-use Rattle.laws.proofs.Places.{In, place-below, element}
+use Rattle.laws.proofs.Booleans.{or-left, or-right, not-nothing, inside, never}
+use Rattle.laws.proofs.Places.{In, place-below, element, at-getD}
 
 module _ {A : Type 0} where
   -- what stands in a list is a member
@@ -29,7 +29,7 @@ module _ {A : Type 0} where
   -- a test that holds of some element holds of a member
   pub some-member : (f : A → Bool) (xs : List A) → someOf f xs ≡ true → (x : A) × Member x xs × (f x ≡ true)
   unfolding someOf
-  some-member f [] h = absurd (false≢true h)
+  some-member f [] h = never h
   some-member f (y ∷ xs) h = go (f y) refl h (some-member f xs)
     where
       go : (b : Bool) → f y ≡ b → b || someOf f xs ≡ true → (someOf f xs ≡ true → (x : A) × Member x xs × (f x ≡ true))
@@ -68,7 +68,7 @@ module _ {A : Type 0} where
       go : (b : Bool) → test y ≡ b → Member x (y ∷ xs) → (Member x xs → getElem? xs (placeOf test xs) ≡ some x)
           → getElem? (y ∷ xs) (cond b 0 (suc (placeOf test xs))) ≡ some x
       go true e m rest = ap {B = Option A} some (sym (tells y e))
-      go false e (head p) rest = absurd (false≢true (sym e ∙ ap test (sym p) ∙ holds))
+      go false e (head p) rest = never (sym e ∙ ap test (sym p) ∙ holds)
       go false e (tail m) rest = rest m
 
 module _ {A B : Type 0} where
@@ -106,15 +106,22 @@ unfolding counted
 length-counted i zero = refl
 length-counted i (suc d) = ap suc (length-counted (suc i) d)
 
--- and the place of a is a
-pub at-counted : {A : Type 0} (f : ℕ → A) (k a : ℕ) (d : A) → a < k → getD (map f (counted 0 k)) a d ≡ f a
-unfolding counted
-at-counted f k a d l = go 0 k a l ∙ rw zero-add
-  where
-    go : (i k a : ℕ) → a < k → getD (map f (counted i k)) a d ≡ f (i + a)
-    go i zero a l = absurd (omega arith)
-    go i (suc k) zero l = rw add-zero
-    go i (suc k) (suc a) l = go (suc i) k a (omega arith) ∙ rw (suc-add, add-suc)
+module _ {A : Type 0} (f : ℕ → A) (k a : ℕ) where
+  -- and at place a stands what f makes of a
+  pub place-counted : a < k → getElem? (map f (counted 0 k)) a ≡ some (f a)
+  unfolding counted
+  place-counted l = go 0 k a l ∙ rw zero-add
+    where
+      go : (i k a : ℕ) → a < k → getElem? (map f (counted i k)) a ≡ some (f (i + a))
+      go i zero a l = absurd (omega arith)
+      go i (suc k) zero l = rw add-zero
+      go i (suc k) (suc a) l = go (suc i) k a (omega arith) ∙ rw (suc-add, add-suc)
+
+  -- which is read there
+  pub at-counted : (d : A) → a < k → getD (map f (counted 0 k)) a d ≡ f a
+  at-counted d l =
+      let there = place-counted l in
+      inside (sym (at-getD (map f (counted 0 k)) a d (place-below (map f (counted 0 k)) a there)) ∙ there)
 
 -- a number below k and its place in the list of them are one number
 pub by-place : {A : Type 0} (k : ℕ) (f : ℕ → List A) → eachBelow k f ≡ gather (λ a _. f a) 0 (counted 0 k)

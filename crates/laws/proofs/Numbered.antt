@@ -4,7 +4,7 @@ use Prim.Native.Nat.{ℕ, zero, suc, _+_, _*_, _≤_, _<_}
 use native.Mathlib.Nat.{mul-le-mul-right, suc-mul, zero-mul, zero-add}
 use native.Mathlib.Omega.{arith}
 use mathlib.Core.Path.{_≡_, refl, sym, ap, _∙_, subst}
-use mathlib.Core.Bool.{Bool, true, false, _&&_, cond, false≢true}
+use mathlib.Core.Bool.{Bool, true, false, _&&_, cond}
 use mathlib.Core.Logic.{⊎-elim}
 use mathlib.Core.Option.{Option, none, some}
 use mathlib.Core.List.{List, [], _∷_, _++_, map, List·Memᴰ as Member, List·Memᴰ·head as head, List·Memᴰ·tail as tail}
@@ -14,12 +14,12 @@ use lib.ListN.{length, getD, getElem?, replicate, length-replicate, length-map, 
 use lib.Seq.{getD-append-add}
 use lib.Dec.{eqb}
 use borrow.Author.Tests.{eqb-true, eq-eqb}
-use Rattle.laws.specs.Bits.{someOf, gather, placeOf, eachBelow}
+use Rattle.laws.specs.Bits.{gather, placeOf, eachBelow}
 use Rattle.laws.specs.Model.{Machine}
 use Rattle.laws.specs.Profiles.{Profile, sameProfile, startSet, after, eventProfile, nextProfile}
 use Rattle.laws.specs.Opposite.{Arrow, arrow, isArrow, written, rejectsNonEmpty, gate, inBlock, onto}
-use Rattle.laws.specs.Opposite.{blockProfiles, flags, stateCount, fromSet, fromGate, fromState, fromBlock, arrows}
-use Rattle.laws.proofs.Booleans.{both, and-left, and-right, not-nothing, inside}
+use Rattle.laws.specs.Opposite.{hasBlock, blockProfiles, flags, stateCount, fromSet, fromGate, fromState, fromBlock, arrows}
+use Rattle.laws.proofs.Booleans.{both, and-left, and-right, not-nothing, inside, never}
 use Rattle.laws.proofs.Places.{In, place-below}
 use Rattle.laws.proofs.Joins.{same-equal, equal-same}
 use Rattle.laws.proofs.Complete.{Closed}
@@ -51,8 +51,7 @@ pub has-block : (W : ℕ) (Ps : List ℕ) (ts : List Profile) (t : Profile) (P :
     → In t (blockProfiles W Ps ts)
 unfolding blockProfiles
 has-block W Ps ts t P ht hP e =
-    stands-in (kept (λ u. someOf (λ Q. rejectsNonEmpty W Q u) Ps) (member ts ht)
-    (member-some (λ Q. rejectsNonEmpty W Q t) (member Ps hP) e))
+    stands-in (kept (hasBlock W Ps) (member ts ht) (member-some (λ Q. rejectsNonEmpty W Q t) (member Ps hP) e))
 
 module _ (Ps : List ℕ) (ts : List Profile) where
   -- the gates are a block apart
@@ -164,7 +163,7 @@ test-accepting : (s : Point) → accepts s ≡ true → Accepting s
 unfolding accepts
 test-accepting (at-set P) h = empty-set (eqb-true P 0 h)
 test-accepting (at-block t none) h = a-gate
-test-accepting (at-block t (some x)) h = absurd (false≢true h)
+test-accepting (at-block t (some x)) h = never h
 
 accepting-test : {s : Point} → Accepting s → accepts s ≡ true
 unfolding accepts

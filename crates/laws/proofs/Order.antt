@@ -10,6 +10,7 @@ use lib.ListN.{length}
 use lib.Dec.{ltb, eqb}
 use borrow.Author.Tests.{ltb-true, ltb-false, eqb-true, lt-ltb, le-ltb, eq-eqb}
 use Rattle.laws.specs.Words.{Word, power, lettersBelow, lower, before}
+use Rattle.laws.proofs.Booleans.{never}
 use Rattle.laws.proofs.Places.{length-one-more}
 
 -- what is not true is false
@@ -76,9 +77,9 @@ lower-itself (a ∷ x) = lex-itself a (lower x x) (lower-itself x)
 -- a word lower than a lower one is lower
 lower-then : (x y z : Word) → lower x y ≡ true → lower y z ≡ true → lower x z ≡ true
 unfolding lower
-lower-then [] y z h k = absurd (false≢true h)
-lower-then (a ∷ x) [] z h k = absurd (false≢true h)
-lower-then (a ∷ x) (b ∷ y) [] h k = absurd (false≢true k)
+lower-then [] y z h k = never h
+lower-then (a ∷ x) [] z h k = never h
+lower-then (a ∷ x) (b ∷ y) [] h k = never k
 lower-then (a ∷ x) (b ∷ y) (c ∷ z) h k = lex-then a b c (lower x y) (lower y z) (lower x z) (lower-then x y z) h k
 
 -- two words of one length are the same, or one is lower
@@ -97,8 +98,8 @@ lower-or (a ∷ x) (b ∷ y) l = lex-or a b (lower x y) (lower y x) (λ e. go e 
 -- a lower word stays lower, whatever stands behind
 lower-more : (x y s t : Word) → lower x y ≡ true → lower (x ++ s) (y ++ t) ≡ true
 unfolding lower
-lower-more [] y s t h = absurd (false≢true h)
-lower-more (a ∷ x) [] s t h = absurd (false≢true h)
+lower-more [] y s t h = never h
+lower-more (a ∷ x) [] s t h = never h
 lower-more (a ∷ x) (b ∷ y) s t h =
     ⊎-elim
     (lex-lower a b (lower (x ++ s) (y ++ t)))
@@ -127,14 +128,14 @@ before-not x y h = refuted (before y x) (λ k. false≢true (sym (before-itself 
 -- two words of which neither is before the other are the same
 pub neither-before : (x y : Word) → before x y ≡ false → before y x ≡ false → x ≡ y
 neither-before x y h k =
-    ⊎-elim (λ b. absurd (false≢true (sym h ∙ b))) (⊎-elim (λ e. e) (λ b. absurd (false≢true (sym k ∙ b)))) (before-or x y)
+    ⊎-elim (λ b. never (sym h ∙ b)) (⊎-elim (λ e. e) (λ b. never (sym k ∙ b))) (before-or x y)
 
 -- a word before one that is not after a third is before the third
 before-not-after : (x y z : Word) → before x y ≡ true → before z y ≡ false → before x z ≡ true
 before-not-after x y z h k =
     ⊎-elim
     (before-then x y z h)
-    (⊎-elim (λ e. rw (← e) h) (λ b. absurd (false≢true (sym k ∙ b))))
+    (⊎-elim (λ e. rw (← e) h) (λ b. never (sym k ∙ b)))
     (before-or y z)
 
 -- a word not after one that is not after a third is not after the third
@@ -180,7 +181,7 @@ pub more-not-after : (x y : Word) (a : ℕ) → before y x ≡ false → before 
 more-not-after x y a h =
     ⊎-elim
     (λ b. before-not (x ++ (a ∷ [])) (y ++ (a ∷ [])) (more-before x y a a b))
-    (⊎-elim (λ e. rw e (before-itself (y ++ (a ∷ [])))) (λ b. absurd (false≢true (sym h ∙ b))))
+    (⊎-elim (λ e. rw e (before-itself (y ++ (a ∷ [])))) (λ b. never (sym h ∙ b)))
     (before-or x y)
 
 -- a word with an event more is not empty

@@ -11,7 +11,7 @@ use mathlib.Core.Logic.{⊎-elim}
 use mathlib.Core.List.{List, [], _∷_}
 use lib.ListN.{getD}
 use lib.Bits.{bitOr, or-lt, or-mod, or-shr}
-use lib.Pow.{field, mod-mod-pow, shr-shr}
+use lib.Pow.{pow-pos, field, mod-mod-pow, shr-shr}
 use lib.Dec.{eqb, ltb}
 use borrow.Author.Tests.{ltb-true, ltb-false, eqb-true, eqb-false, eq-eqb, ne-eqb}
 use Rattle.laws.specs.Bits.{bit, fromBits, cell, grid, packedRow, fromRows}
@@ -96,13 +96,9 @@ more-bits (suc N) x y hx hy h =
     go true f e = let g = f e in omega (arith, eqb-true)
     go false f e = omega (arith, eqb-false)
 
--- 0 has no bit, and is below 2^N
+-- 0 has no bit
 pub no-bit : (i : ℕ) → bit 0 i ≡ false
 no-bit i = bit-beyond 0 0 i (omega arith) (omega arith)
-
-pub positive : (N : ℕ) → 0 < 2 ^ N
-positive zero = omega arith
-positive (suc N) = let l = positive N in omega (arith, pow-succ' 2 N)
 
 -- a number is below 2 to it
 below-power : (x : ℕ) → x < 2 ^ x
@@ -213,7 +209,7 @@ row-bit W x p q h = low-bits W (x / 2 ^ (W * p)) q h ∙ rw shr-shr
 -- a number whose bits lie below N is below 2^N
 pub inside-bits : (N x : ℕ) → ((i : ℕ) → bit x i ≡ true → i < N) → x < 2 ^ N
 inside-bits N x h =
-    let small = mod-lt x (positive N) in
+    let small = mod-lt x (pow-pos N) in
     let same = same-numbers x (x % 2 ^ N)
     (λ i. same-test (λ b. low-bits N x i (h i b) ∙ b) (λ b. sym (low-bits N x i (bit-inside N (x % 2 ^ N) i small b)) ∙ b)) in
     omega arith
@@ -222,7 +218,7 @@ module _ (W x : ℕ) where
   -- a row has W bits
   pub row-small : (p : ℕ) → packedRow W x p < 2 ^ W
   unfolding packedRow
-  row-small p = mod-lt (x / 2 ^ (W * p)) (positive W)
+  row-small p = mod-lt (x / 2 ^ (W * p)) (pow-pos W)
 
   -- a bit of a packed number is that of a row and a column
   pub bit-cell : (i : ℕ) → zero < W → bit x i ≡ true → (i % W < W) × (cell W x (i / W) (i % W) ≡ true)
@@ -239,7 +235,7 @@ module _ (W : ℕ) where
   unfolding packedRow
   row-next r x p h =
       let high : (r + 2 ^ W * x) / 2 ^ W ≡ x =
-      rw (add-comm r (2 ^ W * x), mul-add-div {m = 2 ^ W} (positive W) x r, div-eq-of-lt h, add-zero) in
+      rw (add-comm r (2 ^ W * x), mul-add-div {m = 2 ^ W} (pow-pos W) x r, div-eq-of-lt h, add-zero) in
       rw (mul-suc W p, add-comm (W * p) W, ← (shr-shr (r + 2 ^ W * x) W (W * p)), high)
 
   -- row p of the number of a list of rows is the p-th of them, and 0 behind the last

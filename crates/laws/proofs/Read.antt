@@ -2,7 +2,7 @@
 -- other, and so does every answer.
 use Prim.Native.Nat.{ℕ, _<_, _≤_}
 use mathlib.Core.Path.{_≡_, refl, sym, ap, ap₂, _∙_, subst, fun-ext}
-use mathlib.Core.Bool.{Bool, true, false, _&&_}
+use mathlib.Core.Bool.{Bool, true, false, _&&_, and-false}
 use mathlib.Core.List.{List, _++_}
 use lib.ListN.{length, take, getD}
 use lib.Seq.{getD-take}
@@ -32,15 +32,11 @@ module _ (m : Model) (arrows : List ℕ) (same : take (m .k) (m .arrows) ≡ tak
   unfolding leads isState
   leads-same W p a q = go (ltb a (m .k)) refl
     where
-      nothing : (b : Bool) → (b && false) ≡ false
-      nothing true = refl
-      nothing false = refl
-
       go : (b : Bool) → ltb a (m .k) ≡ b
           → (ltb p (m .n) && ltb q (m .n) && ltb a (m .k) && cell W (getD (m .arrows) a 0) p q)
           ≡ (ltb p (m .n) && ltb q (m .n) && ltb a (m .k) && cell W (getD arrows a 0) p q)
       go true e = ap (λ x. ltb p (m .n) && ltb q (m .n) && ltb a (m .k) && cell W x p q) (event-same a (ltb-true a (m .k) e))
-      go false e = rw (e, nothing (ltb p (m .n) && ltb q (m .n)))
+      go false e = rw (e, and-false (ltb p (m .n) && ltb q (m .n)))
 
   machine-same : (W : ℕ) → machine W m ≡ machine W (withArrows m arrows)
   unfolding machine isState

@@ -3,13 +3,13 @@
 use Prim.Native.Nat.{ℕ, zero, suc, _+_, _≤_, _<_}
 use native.Mathlib.Omega.{arith}
 use mathlib.Core.Path.{_≡_, refl, sym, _∙_}
-use mathlib.Core.Bool.{false≢true}
 use mathlib.Core.List.{List, [], _∷_, _++_}
 use mathlib.Core.Option.{none, some}
 use lib.ListN.{length, getElem?}
 use borrow.Author.Tests.{eq-eqb, ne-eqb}
 use Rattle.laws.specs.Words.{lettersBelow}
 use Rattle.laws.specs.Tables.{WordValue, Entry, noEntry, noEvent, Came, empty-word, one-event, one-more, Holds, rebuilt, wordOf}
+use Rattle.laws.proofs.Booleans.{never}
 use Rattle.laws.proofs.Order.{neither-before, none-before-empty, letters-less}
 use Rattle.laws.proofs.Places.{place-below, element, length-one-more}
 
@@ -95,4 +95,4 @@ module _ {Value : Type 0} {Val : WordValue Value} {k : ℕ} {es : List (Entry Va
             let least = h .word-least (suc i) e at-i [] refl (cc) in
             let is-empty = neither-before [] (h .word (suc i)) least (none-before-empty (h .word (suc i))) in
             let behind = h .ordered 0 (suc i) (omega arith) (place-below es (suc i) at-i) in
-            absurd (false≢true (sym (none-before-empty (h .word 0)) ∙ (rw (← is-empty) at behind)))
+            never (sym (none-before-empty (h .word 0)) ∙ (rw (← is-empty) at behind))

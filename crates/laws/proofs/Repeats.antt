@@ -23,16 +23,16 @@ use Rattle.laws.proofs.Rounds.{power-profile, marked-accepted, accepted
 
 module _ (W : ℕ) where
   -- t leads from p to q, or marks that: what is shown of both is shown once
-  abbrev pub has : Bool → Profile → ℕ → ℕ → Bool
+  abbrev has : Bool → Profile → ℕ → ℕ → Bool
   has false t p q = leadsTo W t p q
   has true t p q = marked W t p q
 
   -- every arrow and every mark of s is one of c
-  abbrev pub Inside : Profile → Profile → Type 0
+  abbrev Inside : Profile → Profile → Type 0
   Inside s c = (b : Bool) (p q : ℕ) → p < W → q < W → has b s p q ≡ true → has b c p q ≡ true
 
   -- t repeated
-  abbrev pub repeat : ℕ → Profile → Profile
+  abbrev repeat : ℕ → Profile → Profile
   repeat n t = times (join W) n t
 
   module _ (s t : Profile) where

@@ -3,13 +3,14 @@
 use Prim.Native.Nat.{ℕ, zero, suc, _+_, _≤_, _<_}
 use native.Mathlib.Omega.{arith}
 use mathlib.Core.Path.{_≡_, refl, sym, _∙_, subst}
-use mathlib.Core.Bool.{Bool, true, false, false≢true}
+use mathlib.Core.Bool.{Bool, true, false}
 use mathlib.Core.List.{[], _∷_}
 use mathlib.Core.Option.{Option, none, some}
 use lib.ListN.{length, take, getElem?}
 use lib.Seq.{take-all, take-append-le}
 use borrow.Author.Tests.{lt-ltb, le-ltb}
 use Rattle.laws.specs.Tables.{WordValue, Entry, Table, UpTo, noEntry, enter, byEvents, byEntries, begun, made}
+use Rattle.laws.proofs.Booleans.{never}
 use Rattle.laws.proofs.Places.{past-end, length-one-more}
 use Rattle.laws.proofs.Entering.{cut-same, Entered, there, new, full, entered, enter-still}
 use Rattle.laws.proofs.Entering.{entries-end, entries-on, entries-keep, entries-still}
@@ -37,7 +38,7 @@ module _ {Value : Type 0} {r R : ℕ} where
       rw (← p)
       (record { first = sym (take-all r (t .entries) (w .first)); cut = w .uncut ∙ sym (le-ltb r (length (t .entries)) (w .first)) })
   beside-first {T = T} (past c f l) h = record { first = f; cut = c ∙ sym (lt-ltb r (length (T .entries)) l) }
-  beside-first (second-cut q) h = absurd (false≢true (sym h ∙ q))
+  beside-first (second-cut q) h = never (sym h ∙ q)
 
 module _ {Value : Type 0} (Val : WordValue Value) (r R : ℕ) where
   -- level tables, and the same entry for both
@@ -51,9 +52,9 @@ module _ {Value : Type 0} (Val : WordValue Value) (r R : ℕ) where
       past (cut-same p)
       (rw (p, q) (sym (take-append-le r (t .entries) (e ∷ []) l ∙ take-all r (t .entries) (w .first))))
       (rw q (omega (arith, length-one-more (t .entries) e)))
-  level-enter w (there s p) (new n L q) = absurd (false≢true (sym n ∙ s))
-  level-enter w (new n l p) (there s q) = absurd (false≢true (sym n ∙ s))
-  level-enter w (full n l p) (there s q) = absurd (false≢true (sym n ∙ s))
+  level-enter w (there s p) (new n L q) = never (sym n ∙ s)
+  level-enter w (new n l p) (there s q) = never (sym n ∙ s)
+  level-enter w (full n l p) (there s q) = never (sym n ∙ s)
   level-enter w h (full n L q) = second-cut (cut-same q)
 
   -- a full table, and an entry for the other one

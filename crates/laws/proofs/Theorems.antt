@@ -1,6 +1,6 @@
--- THE THEOREMS, to be held beside demands 2 and 3. W is the number of states of the kind of model and k the number of events; nothing before
--- the file, which is the first kind's, knows how many they are. No axiom is used, and each condition stands in its statement. Under a
--- statement stands what proves it.
+-- THE THEOREMS, to be held beside demands 2 and 3. W is the number of states of the kind of model and k the number of events; nothing
+-- before the file, which is the first kind's, knows how many they are. No axiom is used, and each condition stands in its statement. Under
+-- a statement stands what proves it.
 use Prim.Native.Nat.{ℕ, suc, _*_, _^_, _<_, _≤_}
 use native.Mathlib.Omega.{arith}
 use mathlib.Core.Path.{_≡_, refl, sym, ap, ap₂, _∙_}
@@ -134,8 +134,8 @@ module _ (W : ℕ) (sets : List (Entry ℕ)) (profiles : List (Entry Profile)) w
       → verdict W sets profiles ≡ uncovered (wordOf sets i) (wordOf profiles j)
   first-is-uncovered = first-verdict W sets profiles
 
--- ONE COURSE without tables: it is accepted exactly if all repeats of its round have a marked way back at the set of its beginning, or where
--- they lead that set
+-- ONE COURSE without tables: it is accepted exactly if all repeats of its round have a marked way back at the set of its beginning, or
+-- where they lead that set
 pub course-by-repeats : (W : ℕ) (M : Machine ℕ) → Within W M → (u v : Word) (t c : Profile) → profileOf W M v ≡ some t → Repeats W t c
     → (acceptedFrom W (setOf W M u) c ≡ true) ↔ Accepted M u v
 course-by-repeats W M within u v t c = accepted-from W M within u v t c

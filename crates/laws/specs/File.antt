@@ -21,14 +21,18 @@ field tag value = head tag (length value) ++ value
 abbrev pub endField : List ℕ
 endField = 0x7F ∷ 0x00 ∷ 0x00 ∷ []
 
--- THE EXACT FORM: the bytes of a model's file. In the field of an event, mask p gives the states reached from p
+-- the field of event a: its number, and for each state p the mask of the states reached from p
+unfoldable pub eventField : Model → ℕ → List ℕ
+eventField m a = field 0x05 (a ∷ map (packedRow (eight .states) (getD (m .arrows) a 0)) (counted 0 (m .n)))
+
+-- THE EXACT FORM: the bytes of a model's file
 unfoldable pub fileOf : Model → List ℕ
 fileOf m =
     field 0x01 (m .n ∷ [])
     ++ field 0x02 (m .k ∷ [])
     ++ field 0x03 (m .start ∷ [])
     ++ field 0x04 (m .home ∷ [])
-    ++ eachBelow (m .k) (λ a. field 0x05 (a ∷ map (packedRow (eight .states) (getD (m .arrows) a 0)) (counted 0 (m .n))))
+    ++ eachBelow (m .k) (eventField m)
     ++ endField
 
 -- where the field of event a begins, behind four fields of four bytes; with a = k, where the end field begins
@@ -99,13 +103,17 @@ pub record Reading : Type 0 where
   pub fault : Fault
   pub model : Model
 
+-- the reading with first fault f, where m is the model that the bytes give
+unfoldable pub found : Fault → Model → Reading
+found f m =
+    elim (f .number) [
+      | zero ↦ record { fault = f; model = m }
+      | suc _ ↦ record { fault = f; model = record { n = 0; k = 0; start = 0; home = 0; arrows = [] } }
+    ]
+
 -- WHAT A READER FINDS in any bytes, with room for so many arrow numbers
 unfoldable pub reading : List ℕ → ℕ → Reading
 reading bytes room =
     let n : ℕ = value bytes 0 in
     let k : ℕ = value bytes 4 in
-    let f : Fault = firstOf (fileChecks bytes n k room) in
-    elim (f .number) [
-      | zero ↦ record { fault = f; model = modelRead bytes n k }
-      | suc _ ↦ record { fault = f; model = record { n = 0; k = 0; start = 0; home = 0; arrows = [] } }
-    ]
+    found (firstOf (fileChecks bytes n k room)) (modelRead bytes n k)

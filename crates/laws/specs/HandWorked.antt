@@ -28,7 +28,14 @@ unfoldable pub B : Model
 B = record { n = 1; k = 1; start = mask (0 ∷ []); home = mask []; arrows = event (0 ⇒ 0 ∷ []) ∷ [] }
 
 unfoldable pub C : Model
-C = record { n = 2; k = 2; start = mask (0 ∷ []); home = mask (1 ∷ []); arrows = event (0 ⇒ 1 ∷ 1 ⇒ 1 ∷ []) ∷ event (0 ⇒ 0 ∷ 1 ⇒ 0 ∷ []) ∷ [] }
+C =
+    record {
+      n = 2;
+      k = 2;
+      start = mask (0 ∷ []);
+      home = mask (1 ∷ []);
+      arrows = event (0 ⇒ 1 ∷ 1 ⇒ 1 ∷ []) ∷ event (0 ⇒ 0 ∷ 1 ⇒ 0 ∷ []) ∷ [];
+    }
 
 unfoldable pub D : Model
 D = record { n = 1; k = 1; start = mask (0 ∷ []); home = mask (0 ∷ []); arrows = event [] ∷ [] }
@@ -43,7 +50,14 @@ unfoldable pub G : Model
 G = record { n = 1; k = 1; start = mask []; home = mask (0 ∷ []); arrows = event (0 ⇒ 0 ∷ []) ∷ [] }
 
 unfoldable pub H : Model
-H = record { n = 2; k = 2; start = mask (0 ∷ []); home = mask (1 ∷ []); arrows = event (0 ⇒ 0 ∷ []) ∷ event (0 ⇒ 0 ∷ 0 ⇒ 1 ∷ 1 ⇒ 1 ∷ []) ∷ [] }
+H =
+    record {
+      n = 2;
+      k = 2;
+      start = mask (0 ∷ []);
+      home = mask (1 ∷ []);
+      arrows = event (0 ⇒ 0 ∷ []) ∷ event (0 ⇒ 0 ∷ 0 ⇒ 1 ∷ 1 ⇒ 1 ∷ []) ∷ [];
+    }
 
 -- two states that swap on the one event, both start, one home: "t then t is t" matters
 unfoldable pub Swap : Model
@@ -55,7 +69,14 @@ Both = record { n = 2; k = 1; start = mask (0 ∷ 1 ∷ []); home = mask (1 ∷ 
 
 -- C without home, which has two rejecting pairs: set 0 with profile 1, and set 1 with profile 0. The lower set comes first
 unfoldable pub Homeless : Model
-Homeless = record { n = 2; k = 2; start = mask (0 ∷ []); home = mask []; arrows = event (0 ⇒ 1 ∷ 1 ⇒ 1 ∷ []) ∷ event (0 ⇒ 0 ∷ 1 ⇒ 0 ∷ []) ∷ [] }
+Homeless =
+    record {
+      n = 2;
+      k = 2;
+      start = mask (0 ∷ []);
+      home = mask [];
+      arrows = event (0 ⇒ 1 ∷ 1 ⇒ 1 ∷ []) ∷ event (0 ⇒ 0 ∷ 1 ⇒ 0 ∷ []) ∷ [];
+    }
 
 -- a line that goes there on one event and back on the other, no home: no profile of one event rejects with {0}, that of 0 1 does
 unfoldable pub Shuttle : Model

@@ -62,9 +62,13 @@ module _ (Ps : List ℕ) (ts : List Profile) where
   unfoldable pub onto : ℕ → Profile → ℕ → ℕ → Profile → List Arrow
   onto b t p a y = cond (sameProfile y t) (arrow p a (gate b) ∷ []) [] ++ (arrow p a (inBlock b (placeOf (sameProfile y) ts)) ∷ [])
 
--- the profiles that have a block, in their order: those that reject with some set other than the empty one
+-- t has a block: it rejects with some set other than the empty one
+abbrev pub hasBlock : ℕ → List ℕ → Profile → Bool
+hasBlock W Ps t = someOf (λ P. rejectsNonEmpty W P t) Ps
+
+-- the profiles that have a block, in their order
 unfoldable pub blockProfiles : ℕ → List ℕ → List Profile → List Profile
-blockProfiles W Ps ts = keep (λ t. someOf (λ P. rejectsNonEmpty W P t) Ps) ts
+blockProfiles W Ps ts = keep (hasBlock W Ps) ts
 
 -- how many rejecting pairs have a set that is not empty
 unfoldable pub pairCount : ℕ → List ℕ → List Profile → ℕ
@@ -85,7 +89,9 @@ module _ (W : ℕ) (M : Machine ℕ) (Ps : List ℕ) (ts : List Profile) where
   unfoldable pub fromSet : List Profile → ℕ → ℕ → ℕ → List Arrow
   fromSet bs i P a =
       arrow i a (placeOf (eqb (after W M P a)) Ps)
-      ∷ gather (λ b t. cond (rejectsNonEmpty W P t) (arrow i a (inBlock Ps ts b (placeOf (sameProfile (eventProfile W M a)) ts)) ∷ []) []) 0 bs
+      ∷ gather
+      (λ b t. cond (rejectsNonEmpty W P t) (arrow i a (inBlock Ps ts b (placeOf (sameProfile (eventProfile W M a)) ts)) ∷ []) [])
+      0 bs
 
   -- from the gate of block b, t's, on event a: onto a's profile
   unfoldable pub fromGate : ℕ → Profile → ℕ → List Arrow

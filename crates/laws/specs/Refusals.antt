@@ -61,7 +61,8 @@ unfoldable pub modelChecks : Kind → Model → List Check
 modelChecks K m =
     refuse 1 (outside (K .states) (m .n) || outside (K .events) (m .k))
     ∷ refuse 2 (ltb (length (m .arrows)) (m .k))
-    ∷ refuse 3 (maskBeyond (m .n) (m .start) || maskBeyond (m .n) (m .home) || someOf (arrowsBeyond (K .states) (m .n)) (take (m .k) (m .arrows)))
+    ∷ refuse 3
+    (maskBeyond (m .n) (m .start) || maskBeyond (m .n) (m .home) || someOf (arrowsBeyond (K .states) (m .n)) (take (m .k) (m .arrows)))
     ∷ []
 
 -- WHAT IS ASKED OF A MODEL, so that none of these is given: n and k in their ranges, k numbers of arrows, and no bit that names a state n

@@ -46,9 +46,11 @@ pub record Holds {Value : Type 0} (Val : WordValue Value) (k : ℕ) (entries : L
   pub word-letters : (i : ℕ) (e : Entry Value) → getElem? entries i ≡ some e → lettersBelow k (word i) ≡ true
   pub word-value : (i : ℕ) (e : Entry Value) → getElem? entries i ≡ some e → Val .of (word i) ≡ some (e .value)
   -- no word before it has that value
-  pub word-least : (i : ℕ) (e : Entry Value) → getElem? entries i ≡ some e → (w : Word) → lettersBelow k w ≡ true → Val .of w ≡ some (e .value) → before w (word i) ≡ false
+  pub word-least : (i : ℕ) (e : Entry Value) → getElem? entries i ≡ some e → (w : Word) → lettersBelow k w ≡ true
+      → Val .of w ≡ some (e .value) → before w (word i) ≡ false
   -- every value that some word has is there
-  pub all : (w : Word) (x : Value) → lettersBelow k w ≡ true → Val .of w ≡ some x → (i : ℕ) × (e : Entry Value) × (getElem? entries i ≡ some e) × (e .value ≡ x)
+  pub all : (w : Word) (x : Value) → lettersBelow k w ≡ true → Val .of w ≡ some x
+      → (i : ℕ) × (e : Entry Value) × (getElem? entries i ≡ some e) × (e .value ≡ x)
   -- once
   pub once : (i j : ℕ) (e f : Entry Value) → getElem? entries i ≡ some e → getElem? entries j ≡ some f → e .value ≡ f .value → i ≡ j
   -- in the order of their least words

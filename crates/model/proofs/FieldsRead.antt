@@ -19,7 +19,7 @@ use Rattle.model.specs.declared.fields.Field.{Field}
 use Rattle.model.specs.declared.fields.Field.the-variants.{Value, Fault}
 
 -- a length of two bytes is its low and its high byte
-pub head-bytes : (tag size : ℕ) → size ≤ 65535 → tag ∷ size % 256 ∷ size / 256 % 256 ∷ [] ≡ head tag size
+head-bytes : (tag size : ℕ) → size ≤ 65535 → tag ∷ size % 256 ∷ size / 256 % 256 ∷ [] ≡ head tag size
 unfolding head
 head-bytes tag size l = let high : size / 256 % 256 ≡ size / 256 = omega arith in rw high
 

@@ -9,7 +9,7 @@ use Rattle.laws.specs.Bits.{fromRows, eachBelow}
 use Rattle.laws.specs.Refusals.{Check, Fault as FirstFault, firstOf}
 use Rattle.laws.specs.File as paper
 use Rattle.laws.specs.File.{fileOf, eventOffset, value, masks, numberChecks, maskChecks, eventChecks, endChecks, frontChecks, fileChecks}
-use Rattle.laws.specs.File.{modelRead, reading}
+use Rattle.laws.specs.File.{modelRead, found, reading}
 use Rattle.laws.specs.Answers.{over, arrowSlice}
 use Rattle.laws.proofs.Over.{over-first}
 use Rattle.laws.proofs.Checks.{passed-each, stopped-each, all-passed, first-stops}
@@ -31,57 +31,54 @@ front-before : (file : List ℕ) (n k room : ℕ) → fileChecks file n k room �
 unfolding fileChecks frontChecks numberChecks maskChecks
 front-before file n k room = refl
 
--- what is found where the first fault is f
-abbrev foundWith : List ℕ → FirstFault → paper.Reading
-foundWith file f =
-    elim (f .number) [
-      | zero ↦ record { fault = f; model = modelRead file (value file 0) (value file 4) }
-      | suc _ ↦ record { fault = f; model = record { n = 0; k = 0; start = 0; home = 0; arrows = [] } }
-    ]
-
 module _ (file old : List ℕ) where
-  abbrev found : paper.Reading
-  found = reading file (length old)
+  abbrev read : paper.Reading
+  read = reading file (length old)
 
   abbrev first : FirstFault
   first = firstOf (fileChecks file (value file 0) (value file 4) (length old))
 
-  found-with : {f : FirstFault} → first ≡ f → found ≡ foundWith file f
+  -- what is read where the first fault is f
+  abbrev readWith : FirstFault → paper.Reading
+  readWith f = found f (modelRead file (value file 0) (value file 4))
+
+  read-with : {f : FirstFault} → first ≡ f → read ≡ readWith f
   unfolding reading
-  found-with e = ap (foundWith file) e
+  read-with e = ap readWith e
 
   -- there are k numbers of arrows, none after a fault, and there is room for them
-  pub numbers-fit : (length (found .model .arrows) ≡ found .model .k) × (found .model .k ≤ length old)
+  pub numbers-fit : (length (read .model .arrows) ≡ read .model .k) × (read .model .k ≤ length old)
+  unfolding found
   numbers-fit = go (first .number) refl
     where
-      go : (x : ℕ) → first .number ≡ x → (length (found .model .arrows) ≡ found .model .k) × (found .model .k ≤ length old)
+      go : (x : ℕ) → first .number ≡ x → (length (read .model .arrows) ≡ read .model .k) × (read .model .k ≤ length old)
       go zero e = arrows-read file (length old) (ap (λ f. f .number) (read-fault file (length old)) ∙ e)
       go (suc x) e =
           let f : first ≡ record { number = suc x; offset = first .offset } = ap (λ y. record { number = y; offset = first .offset }) e in
-          rw (found-with f) (refl, omega arith)
+          rw (read-with f) (refl, omega arith)
 
   -- the model that was read has the arrow numbers that now stand first in the slice
-  pub numbers-first : take (found .model .k) (found .model .arrows) ≡ take (found .model .k) (arrowSlice found old)
+  pub numbers-first : take (read .model .k) (read .model .arrows) ≡ take (read .model .k) (arrowSlice read old)
   unfolding arrowSlice
-  numbers-first = over-first (found .model .arrows) old (found .model .k) (numbers-fit .0)
+  numbers-first = over-first (read .model .arrows) old (read .model .k) (numbers-fit .0)
 
   -- what is told and what the slice holds is all: with number 0 the file is that of the model that now stands there
-  reads-as : {new : List ℕ} {answer : Reading} → told answer ≡ due found → new ≡ arrowSlice found old → ReadsFile file old new answer
+  reads-as : {new : List ℕ} {answer : Reading} → told answer ≡ due read → new ≡ arrowSlice read old → ReadsFile file old new answer
   unfolding due
   reads-as {new} {answer} t s =
-      let form : found .fault .number ≡ 0 → fileOf (modelTold (due found) (arrowSlice found old)) ≡ file =
-      λ h. sym (form-first (found .model) (arrowSlice found old) numbers-first) ∙ form-read file (length old) h in
+      let form : read .fault .number ≡ 0 → fileOf (modelTold (due read) (arrowSlice read old)) ≡ file =
+      λ h. sym (form-first (read .model) (arrowSlice read old) numbers-first) ∙ form-read file (length old) h in
       record { told-is = t; arrows-are = s; form-is = λ h. rw (t, s) (form (ap (λ u. u .number) (sym t) ∙ h)) }
 
   -- a first fault is told, and the slice is as it was
   refuses : {number offset : ℕ} → 0 < number → first ≡ record { number = number; offset = offset }
       → ReadsFile file old old (Refused number offset)
-  unfolding told due arrowSlice over
+  unfolding told due arrowSlice over found
   refuses {number = zero} l e = absurd (omega arith)
   refuses {number = suc number} {offset = offset} l e =
       let f : FirstFault = record { number = suc number; offset = offset } in
-      let tells : told (Refused (suc number) offset) ≡ due (foundWith file f) = rw (ne-eqb (suc number) 0 (λ z. omega arith)) in
-      reads-as (tells ∙ sym (ap due (found-with e))) (sym (ap (λ r. arrowSlice r old) (found-with e)))
+      let tells : told (Refused (suc number) offset) ≡ due (readWith f) = rw (ne-eqb (suc number) 0 (λ z. omega arith)) in
+      reads-as (tells ∙ sym (ap due (read-with e))) (sym (ap (λ r. arrowSlice r old) (read-with e)))
 
   -- a fault before the events
   pub refuses-front : {answer : Reading} {number offset : ℕ} → answer ≡ Refused number offset → IsFront file (length old) answer
@@ -126,11 +123,11 @@ module _ (file old : List ℕ) where
         -- no fault at all: the model was read, and its arrow numbers stand in the slice
         pub reads : {at x : ℕ} {end : Field} {new : List ℕ} → at ≡ eventOffset (m .n) (m .k) → end ≡ Value x
             → IsField 8 (endChecks file at) 0 end → new ≡ over (take (m .k) numbers) old → ReadsFile file old new (Read m)
-        unfolding told due arrowSlice modelRead
+        unfolding told due arrowSlice modelRead found
         reads {at} there is field so =
             let (passed, _) = subst (IsField 8 (endChecks file at) 0) is field in
             let none : first ≡ record { number = 0; offset = 0 } = behind-events (rw (← there) (all-passed (endChecks file at) passed)) in
-            let e = found-with none in
+            let e = read-with none in
             let stand = all-gathered g (h .k-most) all in
             reads-as (rw (h .n-is, h .k-is, h .start-is, h .home-is) (sym (ap due e)))
             (so ∙ ap (λ xs. over xs old) (stand ∙ rw (h .n-is, h .k-is)) ∙ sym (ap (λ r. arrowSlice r old) e))

@@ -1,5 +1,5 @@
--- WHAT FOLLOWS FROM THE CONTRACTS OF THE MODEL'S CALLS: no second result meets them; and of reading: a model that was read is not refused, a
--- file is read exactly if it is that of a model, and what is past the events stays as it was.
+-- WHAT FOLLOWS FROM THE CONTRACTS OF THE MODEL'S CALLS: no second result meets them; and of reading: a model that was read is not refused,
+-- a file is read exactly if it is that of a model, and what is past the events stays as it was.
 use Prim.Native.Nat.{ℕ, _≤_}
 use native.Mathlib.Omega.{arith}
 use mathlib.Core.Path.{_≡_, refl, sym, ap, ap₂, _∙_}
@@ -71,15 +71,15 @@ still-asked m arrows same there u =
     }
 
 module _ {file old new : List ℕ} {answer : Reading} (c : ReadsFile file old new answer) where
-  abbrev found : paper.Reading
-  found = reading file (length old)
+  abbrev read : paper.Reading
+  read = reading file (length old)
 
   -- what is told, of what is found in the file
-  number-is : told answer .number ≡ found .fault .number
+  number-is : told answer .number ≡ read .fault .number
   unfolding due
   number-is = ap (λ t. t .number) (c .told-is)
 
-  model-is : modelTold (told answer) new ≡ withArrows (found .model) (arrowSlice found old)
+  model-is : modelTold (told answer) new ≡ withArrows (read .model) (arrowSlice read old)
   unfolding due
   model-is = rw (c .told-is, c .arrows-are)
 
@@ -93,18 +93,18 @@ module _ {file old new : List ℕ} {answer : Reading} (c : ReadsFile file old ne
   read-kept =
       let (all, fits) = numbers-fit file old in
       rw (c .told-is, c .arrows-are) (
-        over-length (found .model .arrows) old (omega arith),
-        λ i l. over-past (found .model .arrows) old i (omega arith),
+        over-length (read .model .arrows) old (omega arith),
+        λ i l. over-past (read .model .arrows) old i (omega arith),
       )
 
   told-unrefused : told answer .number ≡ 0 → firstOf (modelChecks eight (modelTold (told answer) new)) .number ≡ 0
   unfolding arrowSlice
   told-unrefused h =
       let (all, fits) = numbers-fit file old in
-      let long = over-length (found .model .arrows) old (omega arith) in
+      let long = over-length (read .model .arrows) old (omega arith) in
       let u = unrefused-read file (length old) (sym number-is ∙ h) in
       ap (λ m. firstOf (modelChecks eight m) .number) model-is
-      ∙ as-asked eight _ (still-asked (found .model) (arrowSlice found old) (numbers-first file old) (omega arith) u)
+      ∙ as-asked eight _ (still-asked (read .model) (arrowSlice read old) (numbers-first file old) (omega arith) u)
 
 -- THE MODEL THAT WAS READ, with the slice as it now is, is not refused
 pub read-unrefused : {file old new : List ℕ} {m : Model} → ReadsFile file old new (Read m)
