@@ -24,7 +24,7 @@
 extern "C" {
 #endif
 
-/* Room that is always enough: so many places in each of the three set slices, in each of the four profile slices, so many bytes of word
+/* The most room that is ever used: so many places in each of the three set slices, in each of the four profile slices, so many bytes of word
  * memory, and so many places in each of the three slices of the opposite's arrows and in that of its flags. With these 4 and 6 never come, 5
  * comes only for a model with more than 2,048 profiles, and 7 only for an opposite with more than 65,535 states or arrows, which no room can
  * help. Slices may be longer; what is behind these lengths is never touched. */
@@ -77,11 +77,11 @@ CoverVerdict cover_verdict(
     uint8_t start, /* bit q: state q is a start state */
     uint8_t home,  /* bit q: state q is a home state */
     const uint64_t *arrows, size_t arrows_length, /* read; k numbers or more, one an event, the rest not read. Bit 8*p+q: it leads p to q */
-    /* written, a place for each set; COVER_SETS places are always enough */
+    /* written, a place for each set; COVER_SETS places are always enough, for no model has more sets */
     uint8_t *set_masks, size_t set_masks_length, /* bit q: state q is in the set */
     uint16_t *set_from, size_t set_from_length,  /* the set from which its last event leads here; COVER_NO_ENTRY for the start states */
     uint8_t *set_event, size_t set_event_length, /* that event; COVER_NO_EVENT for the start states */
-    /* written, a place for each profile; COVER_PROFILES places are always enough */
+    /* written, a place for each profile; of more than COVER_PROFILES places no more are used, and a model with more profiles gets 5 */
     uint64_t *profile_arrows, size_t profile_arrows_length, /* bit 8*p+q: the word leads p to q */
     uint64_t *profile_marks, size_t profile_marks_length,   /* bit 8*p+q: and that is marked */
     uint16_t *profile_from, size_t profile_from_length,     /* the profile of the word without its last event; COVER_NO_ENTRY for one event */

@@ -13,9 +13,10 @@ use Rattle.model.specs.declared.Model.{Model}
 use Rattle.closing.specs.Memory.{Kept}
 use Rattle.closing.specs.Closing.{due}
 use Rattle.closing.proofs.Promises.{written, first-k-only, one-closing}
-use Rattle.cover.specs.Verdicts.{told, tells, GivesVerdict, due as verdict-due}
+use Rattle.cover.specs.Verdicts.{told, tells, given, GivesVerdict, due as verdict-due}
 use Rattle.cover.specs.declared.answer.Answer.{Answer}
 use Rattle.cover.specs.declared.answer.Answer.the-variants.{Covered, Uncovered, Refused}
+use Rattle.cover.proofs.Verdicts.{given-is}
 
 -- THE VERDICT reads only the first k numbers of arrows, as closing does
 pub verdict-first-k : (m : Model) (arrows other : List ℕ) (S : SetSlices) (T : ProfileSlices) (memory : List ℕ) → m .k ≤ length arrows
@@ -59,6 +60,10 @@ module _ {m : Model} {arrows : List ℕ} {S S′ : SetSlices} {T T′ : ProfileS
         (length memory)
     unfolding verdictIn verdictAnswer closingIn
     verdict-listed = ap (λ c. verdictFrom 8 c (length memory)) (j .closing .listed)
+
+    -- THE VERDICT THAT IS GIVEN by the answer, and the word memory as it is left, is document 01's
+    pub gives-due : given answer memory′ ≡ verdict-due m arrows S T memory .verdict
+    gives-due = rw (j .word-memory) (given-is answer (verdict-due m arrows S T memory) memory (j .answered))
 
     -- what was written are u and v
     words-long : length (words (verdict-due m arrows S T memory .verdict)) ≡ told answer .u + told answer .v

@@ -56,7 +56,8 @@ module _ (u v memory : List ℕ) where
   second-word = rw (append-assoc, drop-at u (v ++ drop (length (u ++ v)) memory) (length u) refl) (take-at v _ (length v) refl)
 
 -- THE VERDICT THAT IS GIVEN by an answer that tells what document 01's tells, and the word memory beside it, is document 01's
-given-is : (answer : Answer) (d : VerdictAnswer) (memory : List ℕ) → told answer ≡ tells d → given answer (wordMemory d memory) ≡ d .verdict
+pub given-is : (answer : Answer) (d : VerdictAnswer) (memory : List ℕ) → told answer ≡ tells d
+    → given answer (wordMemory d memory) ≡ d .verdict
 unfolding told tells isCovered given wordMemory words uAndV
 given-is answer d memory e = go answer (d .verdict) (ap (λ t. t .covered) e) (ap (λ t. t .u) e) (ap (λ t. t .v) e)
   where

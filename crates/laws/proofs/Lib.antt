@@ -4,6 +4,7 @@ pub mod HandWorked
 pub mod Courses
 pub mod Edges
 pub mod Files
+pub mod Printed
 -- the theorems, and below them what proves each
 pub mod Theorems
 pub mod Applied
@@ -58,3 +59,5 @@ pub mod Faultless
 pub mod FileForm
 pub mod FileBytes
 pub mod FileBack
+-- 8. what the program prints
+pub mod Reports

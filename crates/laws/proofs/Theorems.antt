@@ -21,6 +21,7 @@ use Rattle.laws.specs.Opposite.{Arrow, sorted, blockProfiles, flags, sta
 use Rattle.laws.specs.Refusals.{Unrefused}
 use Rattle.laws.specs.File.{fileOf, reading}
 use Rattle.laws.specs.Answers.{CourseAnswer}
+use Rattle.laws.specs.Program.{printed}
 use Rattle.laws.proofs.Places.{place-below}
 use Rattle.laws.proofs.Members.{member}
 use Rattle.laws.proofs.Joins.{join-assoc}
@@ -43,6 +44,7 @@ use Rattle.laws.proofs.Read.{withArrows}
 use Rattle.laws.proofs.FileForm.{form-read, one-model}
 use Rattle.laws.proofs.FileBytes.{first-bytes, few-bytes}
 use Rattle.laws.proofs.FileBack.{read-back, valid-exactly}
+use Rattle.laws.proofs.Reports.{printed-beginning, printed-short}
 
 -- The theorems speak of machines, where needed with states below W. Every model with at most W states is one
 pub every-model : (W : ℕ) (m : Model) → m .n ≤ W → Within W (machine W m)
@@ -248,3 +250,10 @@ files-are-short = few-bytes
 
 pub file-beginning : (bytes : List ℕ) (room : ℕ) → reading (take 212 bytes) room ≡ reading bytes room
 file-beginning = first-bytes
+
+-- 8. WHAT THE PROGRAM PRINTS depends on the first 212 bytes of its file alone, and has at most 8,192 bytes
+pub report-beginning : (file : List ℕ) → printed (take 212 file) ≡ printed file
+report-beginning = printed-beginning
+
+pub report-is-short : (file : List ℕ) → length (printed file) ≤ 8192
+report-is-short = printed-short

@@ -9,3 +9,4 @@ pub mod Refusals
 pub mod File
 pub mod Answers
 pub mod HandWorked
+pub mod Program

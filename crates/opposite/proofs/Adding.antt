@@ -12,10 +12,10 @@ use lib.Dec.{eqb}
 use Rattle.laws.specs.Bits.{counted, someOf, total, count}
 use Rattle.laws.specs.Model.{Machine}
 use Rattle.laws.specs.Profiles.{Profile, sameProfile, image, isFitting, marksRound, isRejecting, nextProfile}
-use Rattle.laws.specs.Opposite.{rejectsNonEmpty, secondCount}
+use Rattle.laws.specs.Opposite.{hasBlock, rejectsNonEmpty, secondCount}
 use Rattle.laws.proofs.Booleans.{never}
 use Rattle.laws.proofs.Members.{length-counted}
-use Rattle.opposite.specs.Tables.{profilesAt, hasBlock, staysUnmarked, isIdempotent}
+use Rattle.opposite.specs.Tables.{profilesAt, staysUnmarked, isIdempotent}
 use Rattle.opposite.proofs.Rows.{profiles-length}
 
 -- a test beside one that holds, and beside one that does not
@@ -29,16 +29,16 @@ beside-false false b c = refl
 beside-false true false c = refl
 beside-false true true c = refl
 
-module _ (P : ℕ) (t : Profile) where
+module _ (W P : ℕ) (t : Profile) where
   -- a profile that joined with itself is itself rejects with the sets other than the empty one that stay unmarked
-  pub rejects-idempotent : isIdempotent t ≡ true → rejectsNonEmpty 8 P t ≡ staysUnmarked P t
+  pub rejects-idempotent : isIdempotent W t ≡ true → rejectsNonEmpty W P t ≡ staysUnmarked W P t
   unfolding isIdempotent rejectsNonEmpty isRejecting isFitting staysUnmarked
-  rejects-idempotent e = rw e (beside-true (not (eqb P 0)) (eqb (image 8 P t) P) (not (marksRound 8 P t)))
+  rejects-idempotent e = rw e (beside-true (not (eqb P 0)) (eqb (image W P t) P) (not (marksRound W P t)))
 
   -- and any other rejects with none
-  pub rejects-other : isIdempotent t ≡ false → rejectsNonEmpty 8 P t ≡ false
+  pub rejects-other : isIdempotent W t ≡ false → rejectsNonEmpty W P t ≡ false
   unfolding isIdempotent rejectsNonEmpty isRejecting isFitting
-  rejects-other e = rw e (beside-false (not (eqb P 0)) (eqb (image 8 P t) P) (not (marksRound 8 P t)))
+  rejects-other e = rw e (beside-false (not (eqb P 0)) (eqb (image W P t) P) (not (marksRound W P t)))
 
 -- how a test counts
 abbrev one : {A : Type 0} → (A → Bool) → A → ℕ
@@ -120,27 +120,27 @@ module _ {A : Type 0} (f : A → Bool) (xs : List A) where
 pub few-profiles : (arrows marks : List ℕ) {n : ℕ} → length marks ≡ length arrows → length arrows ≤ n → length (profilesAt arrows marks) ≤ n
 few-profiles arrows marks same l = rw (profiles-length arrows marks same) l
 
-module _ (M : Machine ℕ) (k : ℕ) (t : Profile) where
+module _ (W : ℕ) (M : Machine ℕ) (k : ℕ) (t : Profile) where
   -- on how many events what was read, of profile x, and then the event has the profile t
-  abbrev pub returning : Option Profile → ℕ
-  returning x = count (λ a. sameProfile (nextProfile 8 M x a) t) (counted 0 k)
+  abbrev returning : Option Profile → ℕ
+  returning x = count (λ a. sameProfile (nextProfile W M x a) t) (counted 0 k)
 
   module _ (ts : List Profile) where
     -- the second arrows of the block of t: from its gate, where nothing was read, and from its states
-    seconds-add : secondCount 8 M k ts t ≡ returning none + total (λ x. returning (some x)) ts
+    seconds-add : secondCount W M k ts t ≡ returning none + total (λ x. returning (some x)) ts
     unfolding secondCount nextProfile
     seconds-add = refl
 
     -- there are at most 16 from each, and with at most 2048 states at most 32784
-    pub few-seconds : k ≤ 16 → length ts ≤ 2048 → secondCount 8 M k ts t ≤ 32784
+    pub few-seconds : k ≤ 16 → length ts ≤ 2048 → secondCount W M k ts t ≤ 32784
     few-seconds l h =
         let few : (x : Option Profile) → returning x ≤ 16 = λ x.
-        omega (arith, count-most (λ a. sameProfile (nextProfile 8 M x a) t) (counted 0 k), length-counted 0 k) in
+        omega (arith, count-most (λ a. sameProfile (nextProfile W M x a) t) (counted 0 k), length-counted 0 k) in
         omega (arith, seconds-add, few none, total-most 16 (λ x. returning (some x)) ts (λ x. few (some x)))
 
     -- SO FAR are found, and those of the states from number i on are left
     abbrev pub Seconds : ℕ → ℕ → Type 0
-    Seconds sofar i = Adding (λ x. returning (some x)) ts (secondCount 8 M k ts t) sofar i
+    Seconds sofar i = Adding (λ x. returning (some x)) ts (secondCount W M k ts t) sofar i
 
     -- those of the gate are found first
     pub seconds-begin : {found : ℕ} → found ≡ returning none → Seconds found 0
@@ -172,16 +172,14 @@ module _ {A : Type 0} (f : A → Bool) where
       go true r e = never (sym e)
       go false r e = omega (arith, r e)
 
-module _ (Ps : List ℕ) (t : Profile) {pairs : ℕ} (counted : pairs ≡ count (λ P. rejectsNonEmpty 8 P t) Ps) where
+module _ (W : ℕ) (Ps : List ℕ) (t : Profile) {pairs : ℕ} (counted : pairs ≡ count (λ P. rejectsNonEmpty W P t) Ps) where
   -- a profile has no block exactly if it rejects with 0 sets other than the empty one
-  pub no-pair-no-block : pairs ≡ 0 → hasBlock Ps t ≡ false
-  unfolding hasBlock
-  no-pair-no-block e = counted-none (λ P. rejectsNonEmpty 8 P t) Ps (sym counted ∙ e)
+  pub no-pair-no-block : pairs ≡ 0 → hasBlock W Ps t ≡ false
+  no-pair-no-block e = counted-none (λ P. rejectsNonEmpty W P t) Ps (sym counted ∙ e)
 
-  pub pair-has-block : (pairs ≡ 0 → ⊥) → hasBlock Ps t ≡ true
-  unfolding hasBlock
-  pair-has-block n = go (hasBlock Ps t) refl
+  pub pair-has-block : (pairs ≡ 0 → ⊥) → hasBlock W Ps t ≡ true
+  pair-has-block n = go (hasBlock W Ps t) refl
     where
-      go : (b : Bool) → hasBlock Ps t ≡ b → b ≡ true
+      go : (b : Bool) → hasBlock W Ps t ≡ b → b ≡ true
       go true e = refl
-      go false e = absurd (n (counted ∙ none-counted (λ P. rejectsNonEmpty 8 P t) Ps e))
+      go false e = absurd (n (counted ∙ none-counted (λ P. rejectsNonEmpty W P t) Ps e))

@@ -19,7 +19,8 @@ use Rattle.laws.specs.Answers.{profileSlices, oppositeSlices, ClosingAnswer, cl
 use Rattle.laws.proofs.Booleans.{never, and-left, and-right}
 use Rattle.laws.proofs.Counts.{states-counted, arrows-counted}
 use Rattle.laws.proofs.Over.{over-first}
-use Rattle.laws.proofs.Answered.{closing-whole, opposite-refused, opposite-7, opposite-0, opposite-exactly-7, opposite-counts, opposite-answers}
+use Rattle.laws.proofs.Answered.{closing-whole, opposite-refused, opposite-7, opposite-0, opposite-exactly-7, opposite-counts}
+use Rattle.laws.proofs.Answered.{opposite-answers}
 use Rattle.model.specs.Asked.{asked}
 use Rattle.model.specs.declared.Model.{Model}
 use Rattle.closing.specs.Memory.{setsIn, profilesIn}
@@ -31,8 +32,8 @@ use Rattle.closing.proofs.ProfileTable as of-profiles
 use Rattle.closing.proofs.Promises.{sets-stand, profiles-stand}
 use Rattle.opposite.specs.Tables.{profilesAt}
 use Rattle.opposite.specs.Memory.{arrowsIn, flagsIn}
-use Rattle.opposite.specs.Drawing.{Draws}
-use Rattle.opposite.specs.Opposites.{told, tells, answerOf, due, statesOf, arrowsOf, WritesOpposite}
+use Rattle.opposite.specs.Drawing.{Draws, answerOf}
+use Rattle.opposite.specs.Opposites.{told, tells, due, statesOf, arrowsOf, WritesOpposite}
 use Rattle.opposite.specs.declared.counts.Counts.{Counts}
 use Rattle.opposite.specs.declared.Answer.{Answer}
 use Rattle.opposite.specs.declared.Answer.the-variants.{Refused}
@@ -47,7 +48,12 @@ module _ (fs : List ℕ) (es : List Arrow) (O : OppositeSlices) where
   unfolding arrowsIn oppositeSlices arrow
   arrows-read =
       read-are _ es (length es) refl
-      (λ i e at. rw (column-at (λ e. e .from) es (O .from) i at, column-at (λ e. e .event) es (O .event) i at, column-at (λ e. e .to) es (O .to) i at))
+      (λ i e at.
+      rw (
+        column-at (λ e. e .from) es (O .from) i at,
+        column-at (λ e. e .event) es (O .event) i at,
+        column-at (λ e. e .to) es (O .to) i at,
+      ))
 
 -- the profiles of a column of arrows and one of marks
 profiles-back : (ts : List Profile) → profilesAt (map (λ t. t .arrows) ts) (map (λ t. t .marks) ts) ≡ ts
@@ -143,23 +149,19 @@ module _ {m : Model} {lent : List ℕ} {S S′ : SetSlices} {T T′ : ProfileSli
         column-first (map (λ t. t .marks) ts) (T .marks) n (long ∙ sym (length-map ts (λ t. t .marks))),
       ) (profiles-back ts)
 
-  -- as many of each, and not more than the limits
-  pub same-places : length marks ≡ length leads
-  same-places = let t = profiles-stand c in simp length-take (omega arith)
-
-  pub few-profiles : length leads ≤ 2048
-  few-profiles = let t = profiles-stand c in simp length-take (omega arith)
-
-  pub few-sets : length Ps ≤ 256
-  few-sets = let s = sets-stand c in simp length-take (omega arith)
-
   module _ (zero-is : closed .number ≡ 0) where
-    pub unrefused : Unrefused eight (asked m lent)
+    -- the model is not refused, and there are as many arrows as marks, and not more of them and of sets than the limits
+    pub drawable : Unrefused eight (asked m lent) × ((length marks ≡ length leads) × (length leads ≤ 2048) × (length Ps ≤ 256))
     unfolding closingIn
-    unrefused = closing-whole eight (asked m lent) (setRoom eight S) (profileRoom eight T) (sym (c .number) ∙ zero-is) .model
+    drawable =
+        let s = sets-stand c in
+        let t = profiles-stand c in (
+          closing-whole eight (asked m lent) (setRoom eight S) (profileRoom eight T) (sym (c .number) ∙ zero-is) .model,
+          (simp length-take (omega arith), simp length-take (omega arith), simp length-take (omega arith)),
+        )
 
     -- WHAT IS DRAWN from them is what is due
-    pub draws : {O O′ : OppositeSlices} {drawn : Counts} → Draws (machine 8 (asked m lent)) (m .k) Ps (profilesAt leads marks) O O′ drawn
+    pub draws : {O O′ : OppositeSlices} {drawn : Counts} → Draws 8 (machine 8 (asked m lent)) (m .k) Ps (profilesAt leads marks) O O′ drawn
         → WritesOpposite m lent S S′ T T′ O O′ (answerOf drawn (closed .sets) (closed .profiles))
     unfolding oppositeIn closingIn answerOf told tells oppositeSlices over
     draws {O} {O′} {drawn} on-slices = go (drawn .fits) refl
@@ -176,7 +178,7 @@ module _ {m : Model} {lent : List ℕ} {S S′ : SetSlices} {T T′ : ProfileSli
         lines : ℕ
         lines = arrowCount 8 M (m .k) (values (C .sets)) (values (C .profiles)) bs
 
-        d : Draws M (m .k) (values (C .sets)) (values (C .profiles)) O O′ drawn
+        d : Draws 8 M (m .k) (values (C .sets)) (values (C .profiles)) O O′ drawn
         d = rw (sets-are, profiles-are) at on-slices
 
         no-refusal : C .number ≡ 0
@@ -186,7 +188,8 @@ module _ {m : Model} {lent : List ℕ} {S S′ : SetSlices} {T T′ : ProfileSli
         too-much : drawn .fits ≡ false → (stateRoom O < states) ⊎ (arrowRoom O < lines)
         too-much e = cases (leb states (stateRoom O)) (leb lines (arrowRoom O)) refl refl
           where
-            cases : (x y : Bool) → leb states (stateRoom O) ≡ x → leb lines (arrowRoom O) ≡ y → (stateRoom O < states) ⊎ (arrowRoom O < lines)
+            cases : (x y : Bool) → leb states (stateRoom O) ≡ x → leb lines (arrowRoom O) ≡ y
+                → (stateRoom O < states) ⊎ (arrowRoom O < lines)
             cases false y p q = inl (leb-false states (stateRoom O) p)
             cases true false p q = inr (leb-false lines (arrowRoom O) q)
             cases true true p q = never (sym e ∙ d .counts .fits ∙ ap₂ _&&_ p q)

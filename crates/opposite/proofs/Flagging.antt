@@ -11,68 +11,40 @@ use borrow.Author.Tests.{ne-eqb}
 use Rattle.laws.specs.Bits.{count}
 use Rattle.laws.specs.Profiles.{Profile}
 use Rattle.laws.specs.Answers.{over}
-use Rattle.laws.specs.Opposite.{rejectsNonEmpty}
+use Rattle.laws.specs.Opposite.{hasBlock, rejectsNonEmpty}
 use Rattle.opposite.specs.Memory.{putAt}
-use Rattle.opposite.specs.Tables.{profilesAt, hasBlock}
+use Rattle.opposite.specs.Tables.{profilesAt}
 use Rattle.opposite.specs.Drawing.{blockFlags, flagsOf}
 use Rattle.opposite.proofs.Rows.{next-left, none-left, profileAt, next-profile, no-profile, profiles-length}
 use Rattle.opposite.proofs.Paper.{block-flags-long}
 use Rattle.opposite.proofs.Writing.{put-nothing, put-length, put-both, put-one}
+use Rattle.opposite.proofs.Writing.{Writer, Underway, start, done-room, room-next, put-next, all-put}
 use Rattle.opposite.proofs.Adding.{no-pair-no-block, pair-has-block}
 
 -- ALL is to be written from place n on to the slice, which was base; now it is new, place is the next place, and rest is left to write
-pub record Numbers (n : ℕ) (all base new : List ℕ) (place : ℕ) (rest : List ℕ) : Type 0 where
-  pub done : List ℕ
-  pub together : done ++ rest ≡ all
-  pub slice : new ≡ putAt n done base
-  pub at : place ≡ n + length done
-  pub room : n + length all ≤ length base
+abbrev Numbers : ℕ → List ℕ → List ℕ → List ℕ → ℕ → List ℕ → Type 0
+Numbers = Underway putAt (λ n xs l. n + length xs ≤ length l)
 
--- at first nothing is written
-begin : {n : ℕ} (all base : List ℕ) → n + length all ≤ length base → {place : ℕ} {rest : List ℕ} → place ≡ n → rest ≡ all
-    → Numbers n all base base place rest
-begin {n} all base h e r =
-    record { done = []; together = r; slice = sym (put-nothing n base); at = e ∙ sym (add-zero n); room = h }
+numbers-writer : Writer putAt (λ n xs l. n + length xs ≤ length l)
+numbers-writer =
+    record {
+      nothing = put-nothing;
+      both = put-both;
+      first = λ n l xs ys r. omega (arith, r, length-append xs ys);
+      second = λ n l xs ys r. omega (arith, r, length-append xs ys, put-length n l xs (omega (arith, r, length-append xs ys)));
+    }
 
 module _ {n : ℕ} {all base new : List ℕ} {place : ℕ} {rest : List ℕ} (w : Numbers n all base new place rest) where
-  -- what is written and what is left is as long as all
-  lengths : length (w .done) + length rest ≡ length all
-  lengths = sym (length-append (w .done) rest) ∙ ap {B = ℕ} length (w .together)
-
   -- the slice keeps its length
   pub keeps-length : length new ≡ length base
-  keeps-length = ap length (w .slice) ∙ put-length n base (w .done) (omega (arith, w .room, lengths))
-
-  -- there is room for what is left
-  room-left : place + length rest ≤ length new
-  room-left = omega (arith, w .at, w .room, lengths, keeps-length)
-
-  -- more was written, and less is left
-  write-next : (xs ys : List ℕ) → rest ≡ xs ++ ys → {newer : List ℕ} {behind : ℕ} → newer ≡ putAt place xs new → behind ≡ place + length xs
-      → Numbers n all base newer behind ys
-  write-next xs ys e p b =
-      record {
-        done = w .done ++ xs;
-        together = append-assoc (w .done) xs ys ∙ ap (λ (r : List ℕ). w .done ++ r) (sym e) ∙ w .together;
-        slice =
-            p ∙ ap₂ (λ m l. putAt m xs l) (w .at) (w .slice) ∙ put-both n base (w .done) xs (omega (arith, w .room, lengths));
-        at = omega (arith, b, w .at, length-append (w .done) xs);
-        room = w .room;
-      }
+  keeps-length = ap length (w .slices) ∙ put-length n base (w .done) (done-room w)
 
   -- one number was set
   set-next : (x : ℕ) (ys : List ℕ) → rest ≡ x ∷ ys → {behind : ℕ} → behind ≡ place + 1 → Numbers n all base (set new place x) behind ys
-  set-next x ys e b =
-      write-next (x ∷ []) ys e (put-one place new x (omega (arith, room-left, ap {B = ℕ} length e))) b
-
-  -- at the end all is written
-  all-written : rest ≡ [] → new ≡ putAt n all base
-  all-written e =
-      let is-all : w .done ≡ all = sym (append-nil (w .done)) ∙ ap (λ (r : List ℕ). w .done ++ r) (sym e) ∙ w .together in
-      w .slice ∙ ap (λ xs. putAt n xs base) is-all
+  set-next x ys e b = put-next w (x ∷ []) ys e (put-one place new x (omega (arith, room-next w (x ∷ []) ys e))) b
 
 -- THE FLAGS OF THE SETS
-abbrev pub setFlag : ℕ → ℕ
+abbrev setFlag : ℕ → ℕ
 setFlag P = cond (eqb P 0) 1 0
 
 -- those of the sets from number i on are left to write
@@ -81,7 +53,7 @@ SetsLeft Ps base new i = Numbers 0 (map setFlag Ps) base new i (map setFlag (dro
 
 -- at first all are
 pub sets-begin : (Ps base : List ℕ) → length Ps ≤ length base → SetsLeft Ps base base 0
-sets-begin Ps base h = begin (map setFlag Ps) base (rw length-map (omega arith)) refl refl
+sets-begin Ps base h = start numbers-writer (rw length-map (omega arith))
 
 module _ (Ps : List ℕ) {base new : List ℕ} {i : ℕ} (w : SetsLeft Ps base new i) where
   -- the next is the empty set, or another
@@ -94,7 +66,7 @@ module _ (Ps : List ℕ) {base new : List ℕ} {i : ℕ} (w : SetsLeft Ps base n
   -- at the end all flags of the sets are written
   pub sets-done : length Ps ≤ i → new ≡ over (flagsOf Ps 0 0) base
   unfolding flagsOf blockFlags putAt
-  sets-done h = all-written w (rw (none-left Ps i h)) ∙ ap (λ xs. over xs base) (sym (append-nil (map setFlag Ps)))
+  sets-done h = all-put w (rw (none-left Ps i h)) .0 ∙ ap (λ xs. over xs base) (sym (append-nil (map setFlag Ps)))
 
 -- THE FLAGS OF A BLOCK: 1 was set at place n, and of the m zeros behind it those from number i on are left to write
 abbrev pub StatesLeft : ℕ → ℕ → List ℕ → List ℕ → ℕ → Type 0
@@ -104,7 +76,7 @@ StatesLeft m n base new i = Numbers (n + 1) (replicate m 0) base new (n + 1 + i)
 pub states-begin : (m n : ℕ) (base : List ℕ) → n + 1 + m ≤ length base → StatesLeft m n base base 0
 states-begin m n base h =
     let all-left : m - 0 ≡ m = omega arith in
-    begin (replicate m 0) base (rw length-replicate h) (add-zero (n + 1)) (ap (λ d. replicate d 0) all-left)
+    rw (add-zero, all-left) (start numbers-writer (rw length-replicate h))
 
 module _ (m n : ℕ) {base new : List ℕ} {i : ℕ} (w : StatesLeft m n base new i) where
   -- the next zero is written
@@ -117,7 +89,7 @@ module _ (m n : ℕ) {base new : List ℕ} {i : ℕ} (w : StatesLeft m n base ne
   -- at the end the gate's and all zeros are written
   pub states-done : m ≤ i → (lent : List ℕ) → base ≡ set lent n 1 → n < length lent → new ≡ putAt n (1 ∷ replicate m 0) lent
   states-done h lent e l =
-      all-written w (ap (λ d. replicate d 0) none)
+      all-put w (ap (λ d. replicate d 0) none) .0
       ∙ ap (λ xs. putAt (n + 1) (replicate m 0) xs) (e ∙ put-one n lent 1 l)
       ∙ put-both n lent (1 ∷ []) (replicate m 0) (omega arith)
     where
@@ -133,7 +105,7 @@ pub blocks-begin : (m h s : ℕ) (lent : List ℕ) {base : List ℕ} → s + h *
     → BlocksLeft m h s base base s 0
 blocks-begin m h s lent {base} l e =
     let all-left : h - 0 ≡ h = omega arith in
-    begin (blockFlags m h) base (omega (arith, block-flags-long m h)) refl (ap (λ d. blockFlags m d) all-left)
+    rw all-left (start numbers-writer (omega (arith, block-flags-long m h)))
 
 module _ (m h s : ℕ) {base new : List ℕ} {n b : ℕ} (w : BlocksLeft m h s base new n b) (l : b < h) where
   -- what is left is a block, and what is left behind it
@@ -147,18 +119,12 @@ module _ (m h s : ℕ) {base new : List ℕ} {n b : ℕ} (w : BlocksLeft m h s b
   -- there is room for it
   pub block-room : n + 1 + m ≤ length new
   block-room =
-      omega (
-        arith,
-        room-left w,
-        ap {B = ℕ} length next-block,
-        length-replicate {A = ℕ} m 0,
-        length-append (1 ∷ replicate m 0) (blockFlags m (h - (b + 1))),
-      )
+      omega (arith, room-next w (1 ∷ replicate m 0) (blockFlags m (h - (b + 1))) next-block, length-replicate {A = ℕ} m 0)
 
   -- it is written
   pub blocks-next : {newer : List ℕ} → newer ≡ putAt n (1 ∷ replicate m 0) new → BlocksLeft m h s base newer (n + (m + 1)) (b + 1)
   blocks-next e =
-      write-next w (1 ∷ replicate m 0) (blockFlags m (h - (b + 1))) next-block e (omega (arith, length-replicate {A = ℕ} m 0))
+      put-next w (1 ∷ replicate m 0) (blockFlags m (h - (b + 1))) next-block e (omega (arith, length-replicate {A = ℕ} m 0))
 
 -- at the end all flags are written, those of the sets before
 pub blocks-done : (Ps : List ℕ) (m h : ℕ) (lent : List ℕ) {base new : List ℕ} {n b : ℕ} → BlocksLeft m h (length Ps) base new n b → h ≤ b
@@ -169,48 +135,48 @@ blocks-done Ps m h lent {base} {new} {n} {b} w l e r =
     let sets : List ℕ = map setFlag Ps in
     let before : base ≡ putAt 0 sets lent = e ∙ ap (λ xs. over xs lent) (append-nil sets) in
     let long : length Ps ≡ 0 + length sets = rw length-map (omega arith) in
-    all-written w (ap (λ d. blockFlags m d) none)
+    all-put w (ap (λ d. blockFlags m d) none) .0
     ∙ ap₂ (λ p xs. putAt p (blockFlags m h) xs) long before
     ∙ put-both 0 lent sets (blockFlags m h) (omega arith)
 
 -- WHICH PROFILES HAVE A BLOCK
 -- 1 for a profile that has a block, 0 for another
-abbrev pub shownAs : List ℕ → Profile → ℕ
-shownAs Ps t = cond (hasBlock Ps t) 1 0
+abbrev shownAs : ℕ → List ℕ → Profile → ℕ
+shownAs W Ps t = cond (hasBlock W Ps t) 1 0
 
 -- those of the profiles from number j on are left to write
-abbrev pub ShownLeft : List ℕ → List ℕ → List ℕ → List ℕ → List ℕ → ℕ → Type 0
-ShownLeft Ps arrows marks base new j =
+abbrev pub ShownLeft : ℕ → List ℕ → List ℕ → List ℕ → List ℕ → List ℕ → ℕ → Type 0
+ShownLeft W Ps arrows marks base new j =
     let ts : List Profile = profilesAt arrows marks in
-    Numbers 0 (map (shownAs Ps) ts) base new j (map (shownAs Ps) (drop j ts))
+    Numbers 0 (map (shownAs W Ps) ts) base new j (map (shownAs W Ps) (drop j ts))
 
-module _ (Ps arrows marks : List ℕ) (same : length marks ≡ length arrows) where
+module _ (W : ℕ) (Ps arrows marks : List ℕ) (same : length marks ≡ length arrows) where
   abbrev ts : List Profile
   ts = profilesAt arrows marks
 
   -- at first all are
-  pub shown-begin : (base : List ℕ) → length base ≡ length arrows → ShownLeft Ps arrows marks base base 0
-  shown-begin base h = begin (map (shownAs Ps) ts) base (rw length-map (omega (arith, profiles-length arrows marks same))) refl refl
+  pub shown-begin : (base : List ℕ) → length base ≡ length arrows → ShownLeft W Ps arrows marks base base 0
+  shown-begin base h = start numbers-writer (rw length-map (omega (arith, profiles-length arrows marks same)))
 
-  module _ {base new : List ℕ} {j : ℕ} (w : ShownLeft Ps arrows marks base new j) where
+  module _ {base new : List ℕ} {j : ℕ} (w : ShownLeft W Ps arrows marks base new j) where
     -- the next has no block, or has one
-    pub lacks-next : j < length arrows → {pairs : ℕ} → pairs ≡ count (λ P. rejectsNonEmpty 8 P (profileAt arrows marks j)) Ps
-        → pairs ≡ 0 → ShownLeft Ps arrows marks base (set new j 0) (j + 1)
+    pub lacks-next : j < length arrows → {pairs : ℕ} → pairs ≡ count (λ P. rejectsNonEmpty W P (profileAt arrows marks j)) Ps
+        → pairs ≡ 0 → ShownLeft W Ps arrows marks base (set new j 0) (j + 1)
     lacks-next h counted e =
-        set-next w 0 (map (shownAs Ps) (drop (j + 1) ts))
-        (rw (next-profile arrows marks j same h, no-pair-no-block Ps (profileAt arrows marks j) counted e)) refl
+        set-next w 0 (map (shownAs W Ps) (drop (j + 1) ts))
+        (rw (next-profile arrows marks j same h, no-pair-no-block W Ps (profileAt arrows marks j) counted e)) refl
 
-    pub has-next : j < length arrows → {pairs : ℕ} → pairs ≡ count (λ P. rejectsNonEmpty 8 P (profileAt arrows marks j)) Ps
-        → (pairs ≡ 0 → ⊥) → ShownLeft Ps arrows marks base (set new j 1) (j + 1)
+    pub has-next : j < length arrows → {pairs : ℕ} → pairs ≡ count (λ P. rejectsNonEmpty W P (profileAt arrows marks j)) Ps
+        → (pairs ≡ 0 → ⊥) → ShownLeft W Ps arrows marks base (set new j 1) (j + 1)
     has-next h counted n =
-        set-next w 1 (map (shownAs Ps) (drop (j + 1) ts))
-        (rw (next-profile arrows marks j same h, pair-has-block Ps (profileAt arrows marks j) counted n)) refl
+        set-next w 1 (map (shownAs W Ps) (drop (j + 1) ts))
+        (rw (next-profile arrows marks j same h, pair-has-block W Ps (profileAt arrows marks j) counted n)) refl
 
     -- at the end they fill the slice
-    pub shown-done : length arrows ≤ j → length base ≡ length arrows → new ≡ map (shownAs Ps) ts
+    pub shown-done : length arrows ≤ j → length base ≡ length arrows → new ≡ map (shownAs W Ps) ts
     unfolding putAt over
     shown-done h l =
-        let all : List ℕ = map (shownAs Ps) ts in
-        let long : length all ≡ length arrows = length-map ts (shownAs Ps) ∙ profiles-length arrows marks same in
+        let all : List ℕ = map (shownAs W Ps) ts in
+        let long : length all ≡ length arrows = length-map ts (shownAs W Ps) ∙ profiles-length arrows marks same in
         let behind : drop (length all) base ≡ [] = none-left base (length all) (omega arith) in
-        all-written w (rw (no-profile arrows marks j same h)) ∙ ap (λ (r : List ℕ). all ++ r) behind ∙ append-nil all
+        all-put w (rw (no-profile arrows marks j same h)) .0 ∙ ap (λ (r : List ℕ). all ++ r) behind ∙ append-nil all

@@ -11,24 +11,13 @@ use Rattle.laws.specs.Bits.{counted, someOf, everyOf, keep, gather, placeOf, ea
 use Rattle.laws.specs.Model.{Machine}
 use Rattle.laws.specs.Profiles.{Profile, sameProfile, join, image, isFitting, marksRound, isRejecting, after, eventProfile}
 use Rattle.laws.specs.Profiles.{nextProfile}
-use Rattle.laws.specs.Opposite.{Arrow, arrow, rejectsNonEmpty, gate, inBlock, onto, blockProfiles, flags, fromSet, fromGate, fromState}
+use Rattle.laws.specs.Opposite.{hasBlock, Arrow, arrow, rejectsNonEmpty, gate, inBlock, onto, blockProfiles, flags, fromSet, fromGate, fromState}
 use Rattle.laws.specs.Opposite.{fromBlock, arrows}
 use Rattle.laws.proofs.Booleans.{both, and-left, and-right}
+use Rattle.laws.proofs.Checks.{each-same}
 use Rattle.laws.proofs.Members.{some-member}
-use Rattle.opposite.specs.Tables.{hasBlock, keepBy, isIdempotent}
+use Rattle.opposite.specs.Tables.{keepBy, isIdempotent}
 use Rattle.opposite.specs.Drawing.{ontoAt, intoBlocks, leadsOn, statesFrom, blockAt, blocksFrom, setOn, setsFrom, blockFlags, flagsOf}
-
--- where the same is listed for every element, the same is gathered
-gather-same : {A B : Type 0} (f g : ℕ → A → List B) (i : ℕ) (xs : List A) → ((i : ℕ) (x : A) → f i x ≡ g i x)
-    → gather f i xs ≡ gather g i xs
-unfolding gather
-gather-same f g i [] h = refl
-gather-same f g i (x ∷ xs) h = ap₂ _++_ (h i x) (gather-same f g (suc i) xs h)
-
--- and so for every number below k
-each-same : {A : Type 0} (k : ℕ) (f g : ℕ → List A) → ((a : ℕ) → f a ≡ g a) → eachBelow k f ≡ eachBelow k g
-unfolding eachBelow
-each-same k f g h = gather-same (λ _ a. f a) (λ _ a. g a) 0 (counted 0 k) (λ _ a. h a)
 
 module _ (Ps : List ℕ) (ts : List Profile) where
   -- the first gate stands behind the sets
@@ -51,67 +40,67 @@ module _ (Ps : List ℕ) (ts : List Profile) where
   unfolding inBlock
   next-state b i = omega arith
 
-module _ (M : Machine ℕ) (k : ℕ) (Ps : List ℕ) (ts : List Profile) where
+module _ (W : ℕ) (M : Machine ℕ) (k : ℕ) (Ps : List ℕ) (ts : List Profile) where
   -- the states of a block from number i on
   states-are-paper : (b : ℕ) (t : Profile) (i : ℕ) (xs : List Profile)
-      → statesFrom M k ts (gate Ps ts b) t (inBlock Ps ts b i) xs ≡ gather (λ i x. eachBelow k (fromState 8 M Ps ts b t i x)) i xs
+      → statesFrom W M k ts (gate Ps ts b) t (inBlock Ps ts b i) xs ≡ gather (λ i x. eachBelow k (fromState W M Ps ts b t i x)) i xs
   unfolding statesFrom leadsOn ontoAt nextProfile fromState onto inBlock gather
   states-are-paper b t i [] = refl
   states-are-paper b t i (x ∷ xs) =
-      let here : List Arrow = eachBelow k (fromState 8 M Ps ts b t i x) in
+      let here : List Arrow = eachBelow k (fromState W M Ps ts b t i x) in
       ap (λ (es : List Arrow). here ++ es)
-      (ap (λ p. statesFrom M k ts (gate Ps ts b) t p xs) (next-state Ps ts b i) ∙ states-are-paper b t (suc i) xs)
+      (ap (λ p. statesFrom W M k ts (gate Ps ts b) t p xs) (next-state Ps ts b i) ∙ states-are-paper b t (suc i) xs)
 
   -- a block
-  block-is-paper : (b : ℕ) (t : Profile) → blockAt M k ts (gate Ps ts b) t ≡ fromBlock 8 M Ps ts k b t
+  block-is-paper : (b : ℕ) (t : Profile) → blockAt W M k ts (gate Ps ts b) t ≡ fromBlock W M Ps ts k b t
   unfolding blockAt leadsOn ontoAt nextProfile fromBlock fromGate onto inBlock
   block-is-paper b t =
-      let from-gate : List Arrow = eachBelow k (fromGate 8 M Ps ts b t) in
+      let from-gate : List Arrow = eachBelow k (fromGate W M Ps ts b t) in
       ap (λ (es : List Arrow). from-gate ++ es)
-      (ap (λ p. statesFrom M k ts (gate Ps ts b) t p ts) (first-state Ps ts b) ∙ states-are-paper b t 0 ts)
+      (ap (λ p. statesFrom W M k ts (gate Ps ts b) t p ts) (first-state Ps ts b) ∙ states-are-paper b t 0 ts)
 
   -- THE BLOCKS from number b on
-  pub blocks-are-paper : (b : ℕ) (bs : List Profile) → blocksFrom M k ts (gate Ps ts b) bs ≡ gather (fromBlock 8 M Ps ts k) b bs
+  blocks-are-paper : (b : ℕ) (bs : List Profile) → blocksFrom W M k ts (gate Ps ts b) bs ≡ gather (fromBlock W M Ps ts k) b bs
   unfolding blocksFrom gather
   blocks-are-paper b [] = refl
   blocks-are-paper b (t ∷ bs) =
-      ap₂ _++_ (block-is-paper b t) (ap (λ g. blocksFrom M k ts g bs) (next-gate Ps ts b) ∙ blocks-are-paper (suc b) bs)
+      ap₂ _++_ (block-is-paper b t) (ap (λ g. blocksFrom W M k ts g bs) (next-gate Ps ts b) ∙ blocks-are-paper (suc b) bs)
 
 -- from a set on an event, whose profile is number e, into the blocks from number b on
-pub into-are-paper : (Ps : List ℕ) (ts : List Profile) (P i a e b : ℕ) (bs : List Profile)
-    → intoBlocks ts P i a e (gate Ps ts b) bs
-    ≡ gather (λ b t. cond (rejectsNonEmpty 8 P t) (arrow i a (inBlock Ps ts b e) ∷ []) []) b bs
+into-are-paper : (W : ℕ) (Ps : List ℕ) (ts : List Profile) (P i a e b : ℕ) (bs : List Profile)
+    → intoBlocks W ts P i a e (gate Ps ts b) bs
+    ≡ gather (λ b t. cond (rejectsNonEmpty W P t) (arrow i a (inBlock Ps ts b e) ∷ []) []) b bs
 unfolding intoBlocks inBlock gather
-into-are-paper Ps ts P i a e b [] = refl
-into-are-paper Ps ts P i a e b (t ∷ bs) =
-    let here : List Arrow = cond (rejectsNonEmpty 8 P t) (arrow i a (inBlock Ps ts b e) ∷ []) [] in
+into-are-paper W Ps ts P i a e b [] = refl
+into-are-paper W Ps ts P i a e b (t ∷ bs) =
+    let here : List Arrow = cond (rejectsNonEmpty W P t) (arrow i a (inBlock Ps ts b e) ∷ []) [] in
     ap (λ (es : List Arrow). here ++ es)
-    (ap (λ g. intoBlocks ts P i a e g bs) (next-gate Ps ts b) ∙ into-are-paper Ps ts P i a e (suc b) bs)
+    (ap (λ g. intoBlocks W ts P i a e g bs) (next-gate Ps ts b) ∙ into-are-paper W Ps ts P i a e (suc b) bs)
 
-module _ (M : Machine ℕ) (k : ℕ) (Ps : List ℕ) (ts bs : List Profile) where
+module _ (W : ℕ) (M : Machine ℕ) (k : ℕ) (Ps : List ℕ) (ts bs : List Profile) where
   -- a set on an event
-  set-is-paper : (i P a : ℕ) → setOn M k Ps ts bs i P a ≡ fromSet 8 M Ps ts bs i P a
+  set-is-paper : (i P a : ℕ) → setOn W M k Ps ts bs i P a ≡ fromSet W M Ps ts bs i P a
   unfolding setOn fromSet
   set-is-paper i P a =
-      let e : ℕ = placeOf (sameProfile (eventProfile 8 M a)) ts in
-      let on : Arrow = arrow i a (placeOf (eqb (after 8 M P a)) Ps) in
+      let e : ℕ = placeOf (sameProfile (eventProfile W M a)) ts in
+      let on : Arrow = arrow i a (placeOf (eqb (after W M P a)) Ps) in
       ap (λ (es : List Arrow). on ∷ es)
-      (ap (λ g. intoBlocks ts P i a e g bs) (sym (first-gate Ps ts)) ∙ into-are-paper Ps ts P i a e 0 bs)
+      (ap (λ g. intoBlocks W ts P i a e g bs) (sym (first-gate Ps ts)) ∙ into-are-paper W Ps ts P i a e 0 bs)
 
   -- THE SETS from number i on
-  pub sets-are-paper : (i : ℕ) (Qs : List ℕ)
-      → setsFrom M k Ps ts bs i Qs ≡ gather (λ i P. eachBelow k (fromSet 8 M Ps ts bs i P)) i Qs
+  sets-are-paper : (i : ℕ) (Qs : List ℕ)
+      → setsFrom W M k Ps ts bs i Qs ≡ gather (λ i P. eachBelow k (fromSet W M Ps ts bs i P)) i Qs
   unfolding setsFrom gather
   sets-are-paper i [] = refl
   sets-are-paper i (P ∷ Qs) =
-      ap₂ _++_ (each-same k (setOn M k Ps ts bs i P) (fromSet 8 M Ps ts bs i P) (set-is-paper i P)) (sets-are-paper (suc i) Qs)
+      ap₂ _++_ (each-same k (setOn W M k Ps ts bs i P) (fromSet W M Ps ts bs i P) (λ a l. set-is-paper i P a)) (sets-are-paper (suc i) Qs)
 
   -- THE ARROWS of the sets and then of the blocks are document 01's
-  pub arrows-are-paper : setsFrom M k Ps ts bs 0 Ps ++ blocksFrom M k ts (length Ps) bs ≡ arrows 8 M k Ps ts bs
+  pub arrows-are-paper : setsFrom W M k Ps ts bs 0 Ps ++ blocksFrom W M k ts (length Ps) bs ≡ arrows W M k Ps ts bs
   unfolding arrows
   arrows-are-paper =
       ap₂ _++_ (sets-are-paper 0 Ps)
-      (ap (λ g. blocksFrom M k ts g bs) (sym (first-gate Ps ts)) ∙ blocks-are-paper M k Ps ts 0 bs)
+      (ap (λ g. blocksFrom W M k ts g bs) (sym (first-gate Ps ts)) ∙ blocks-are-paper W M k Ps ts 0 bs)
 
 -- THE FLAGS are document 01's
 pub flags-are-paper : (Ps : List ℕ) (ts bs : List Profile) → flagsOf Ps (length ts) (length bs) ≡ flags Ps ts bs
@@ -135,40 +124,41 @@ unfolding flagsOf
 flags-long Ps m h = simp (length-append, length-map) (omega (arith, block-flags-long m h))
 
 -- the profiles beside which a 1 says that they have a block are those that have one
-pub shown-are-blocks : (Ps : List ℕ) (ts : List Profile) → keepBy (map (λ t. cond (hasBlock Ps t) 1 0) ts) ts ≡ blockProfiles 8 Ps ts
-unfolding blockProfiles keepBy hasBlock keep
-shown-are-blocks Ps ts = go ts
+pub shown-are-blocks : (W : ℕ) (Ps : List ℕ) (ts : List Profile)
+    → keepBy (map (λ t. cond (hasBlock W Ps t) 1 0) ts) ts ≡ blockProfiles W Ps ts
+unfolding blockProfiles keepBy keep
+shown-are-blocks W Ps ts = go ts
   where
     go : (ts : List Profile)
-        → keepBy (map (λ t. cond (hasBlock Ps t) 1 0) ts) ts ≡ keep (λ t. someOf (λ P. rejectsNonEmpty 8 P t) Ps) ts
+        → keepBy (map (λ t. cond (hasBlock W Ps t) 1 0) ts) ts ≡ keep (λ t. someOf (λ P. rejectsNonEmpty W P t) Ps) ts
     go [] = refl
-    go (t ∷ ts) = one (hasBlock Ps t) (go ts)
+    go (t ∷ ts) = one (hasBlock W Ps t) (go ts)
       where
         one : (b : Bool) {xs ys : List Profile} → xs ≡ ys → cond (eqb (cond b 1 0) 1) (t ∷ xs) xs ≡ cond b (t ∷ ys) ys
         one true e = ap (λ (r : List Profile). t ∷ r) e
         one false e = e
 
 -- a profile that has a block is, joined with itself, itself
-has-idempotent : (Ps : List ℕ) (t : Profile) → someOf (λ P. rejectsNonEmpty 8 P t) Ps ≡ true → isIdempotent t ≡ true
+has-idempotent : (W : ℕ) (Ps : List ℕ) (t : Profile) → someOf (λ P. rejectsNonEmpty W P t) Ps ≡ true → isIdempotent W t ≡ true
 unfolding rejectsNonEmpty isRejecting isFitting isIdempotent
-has-idempotent Ps t h =
-    let (P, _, e) = some-member (λ P. rejectsNonEmpty 8 P t) Ps h in
-    let fits = and-left (isFitting 8 P t) (not (marksRound 8 P t)) (and-right (not (eqb P 0)) (isRejecting 8 P t) e) in
-    and-right (eqb (image 8 P t) P) (sameProfile (join 8 t t) t) fits
+has-idempotent W Ps t h =
+    let (P, _, e) = some-member (λ P. rejectsNonEmpty W P t) Ps h in
+    let fits = and-left (isFitting W P t) (not (marksRound W P t)) (and-right (not (eqb P 0)) (isRejecting W P t) e) in
+    and-right (eqb (image W P t) P) (sameProfile (join W t t) t) fits
 
 -- every profile that has a block is
-pub blocks-idempotent : (Ps : List ℕ) (ts : List Profile) → everyOf isIdempotent (blockProfiles 8 Ps ts) ≡ true
+pub blocks-idempotent : (W : ℕ) (Ps : List ℕ) (ts : List Profile) → everyOf (isIdempotent W) (blockProfiles W Ps ts) ≡ true
 unfolding blockProfiles everyOf keep
-blocks-idempotent Ps ts = go ts
+blocks-idempotent W Ps ts = go ts
   where
     test : Profile → Bool
-    test t = someOf (λ P. rejectsNonEmpty 8 P t) Ps
+    test t = someOf (λ P. rejectsNonEmpty W P t) Ps
 
-    go : (ts : List Profile) → everyOf isIdempotent (keep test ts) ≡ true
+    go : (ts : List Profile) → everyOf (isIdempotent W) (keep test ts) ≡ true
     go [] = refl
     go (t ∷ ts) = one (test t) refl (go ts)
       where
-        one : (b : Bool) → test t ≡ b → everyOf isIdempotent (keep test ts) ≡ true
-            → everyOf isIdempotent (cond b (t ∷ keep test ts) (keep test ts)) ≡ true
-        one true e r = both (has-idempotent Ps t e) r
+        one : (b : Bool) → test t ≡ b → everyOf (isIdempotent W) (keep test ts) ≡ true
+            → everyOf (isIdempotent W) (cond b (t ∷ keep test ts) (keep test ts)) ≡ true
+        one true e r = both (has-idempotent W Ps t e) r
         one false e r = r

@@ -8,7 +8,9 @@ use mathlib.Core.List.{List, [], _∷_}
 use lib.ListN.{length, getD, drop}
 use lib.Seq.{drop-cons, drop-nil}
 use borrow.Author.Tests.{ne-eqb}
-use Rattle.laws.specs.Profiles.{Profile}
+use Rattle.laws.specs.Bits.{placeOf}
+use Rattle.laws.specs.Profiles.{Profile, sameProfile}
+use Rattle.laws.proofs.Sorted.{place-in}
 use Rattle.opposite.specs.Tables.{profilesAt, keepBy}
 
 -- element number i, and what is left behind it
@@ -31,6 +33,12 @@ unfolding profilesAt
 profiles-length [] marks h = refl
 profiles-length (a ∷ arrows) [] h = absurd (omega arith)
 profiles-length (a ∷ arrows) (m ∷ marks) h = ap suc (profiles-length arrows marks (omega arith))
+
+-- the place of a profile is at most the number of profiles
+pub profile-within : (arrows marks : List ℕ) → length marks ≡ length arrows → (x : Profile) {e : ℕ}
+    → e ≡ placeOf (sameProfile x) (profilesAt arrows marks) → e ≤ length arrows
+profile-within arrows marks same x at =
+    omega (arith, at, place-in (sameProfile x) (profilesAt arrows marks), profiles-length arrows marks same)
 
 -- profile number j, and what is left behind it
 pub next-profile : (arrows marks : List ℕ) (j : ℕ) → length marks ≡ length arrows → j < length arrows

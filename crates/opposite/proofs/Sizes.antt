@@ -12,24 +12,23 @@ use borrow.Author.Tests.{lt-leb, le-leb}
 use Rattle.laws.specs.Bits.{someOf, keep, total, count}
 use Rattle.laws.specs.Model.{Machine}
 use Rattle.laws.specs.Profiles.{Profile}
-use Rattle.laws.specs.Opposite.{rejectsNonEmpty, secondCount, blockProfiles, pairCount, stateCount, arrowCount}
+use Rattle.laws.specs.Opposite.{hasBlock, rejectsNonEmpty, secondCount, blockProfiles, pairCount, stateCount, arrowCount}
 use Rattle.laws.proofs.Booleans.{both, never}
-use Rattle.opposite.specs.Tables.{hasBlock}
 use Rattle.opposite.specs.Drawing.{Counted}
 use Rattle.opposite.specs.declared.counts.Counts.{Counts}
 use Rattle.opposite.proofs.Adding.{Adding, add-begins, add-next, add-ends, total-most, few-seconds}
 use Rattle.opposite.proofs.Adding.{none-counted, no-pair-no-block, pair-has-block}
 use Rattle.opposite.proofs.Adding.{Counting, count-begins, count-next, count-ends, count-most}
 
-module _ (Ps : List ℕ) (ts : List Profile) where
+module _ (W : ℕ) (Ps : List ℕ) (ts : List Profile) where
   -- how many states the block of a profile adds, if it has one
   unfoldable pub blockStates : Profile → ℕ
-  blockStates t = cond (hasBlock Ps t) (length ts + 1) 0
+  blockStates t = cond (hasBlock W Ps t) (length ts + 1) 0
 
   -- and how many arrows: k for each pair, k for the gate and for each state, and the second arrows
   unfoldable pub blockArrows : Machine ℕ → ℕ → Profile → ℕ
   blockArrows M k t =
-      cond (hasBlock Ps t) (k * count (λ P. rejectsNonEmpty 8 P t) Ps + (length ts + 1) * k + secondCount 8 M k ts t) 0
+      cond (hasBlock W Ps t) (k * count (λ P. rejectsNonEmpty W P t) Ps + (length ts + 1) * k + secondCount W M k ts t) 0
 
 module _ {A : Type 0} (f : A → Bool) where
   -- as many are kept as are counted
@@ -86,45 +85,45 @@ module _ {A : Type 0} where
   total-swap h [] xs = total-zero xs
   total-swap h (y ∷ ys) xs = total-both (h y) (λ x. total (λ y. h y x) ys) xs ∙ ap (λ n. total (h y) xs + n) (total-swap h ys xs)
 
-module _ (Ps : List ℕ) (ts : List Profile) where
+module _ (W : ℕ) (Ps : List ℕ) (ts : List Profile) where
   -- THE BLOCKS are the profiles that have one
-  pub blocks-counted : length (blockProfiles 8 Ps ts) ≡ count (hasBlock Ps) ts
-  unfolding blockProfiles hasBlock
-  blocks-counted = kept-counted (λ t. someOf (λ P. rejectsNonEmpty 8 P t) Ps) ts
+  blocks-counted : length (blockProfiles W Ps ts) ≡ count (hasBlock W Ps) ts
+  unfolding blockProfiles
+  blocks-counted = kept-counted (λ t. someOf (λ P. rejectsNonEmpty W P t) Ps) ts
 
   -- THE STATES are those of the sets and of the blocks
-  pub states-add : stateCount Ps ts (blockProfiles 8 Ps ts) ≡ length Ps + total (blockStates Ps ts) ts
-  unfolding stateCount blockProfiles blockStates hasBlock
-  states-add = omega (arith, kept-each (λ t. someOf (λ P. rejectsNonEmpty 8 P t) Ps) (length ts + 1) ts)
+  states-add : stateCount Ps ts (blockProfiles W Ps ts) ≡ length Ps + total (blockStates W Ps ts) ts
+  unfolding stateCount blockProfiles blockStates
+  states-add = omega (arith, kept-each (λ t. someOf (λ P. rejectsNonEmpty W P t) Ps) (length ts + 1) ts)
 
   -- THE ARROWS are those of the sets to sets and those of the blocks
-  pub arrows-add : (M : Machine ℕ) (k : ℕ)
-      → arrowCount 8 M k Ps ts (blockProfiles 8 Ps ts) ≡ length Ps * k + total (blockArrows Ps ts M k) ts
-  unfolding arrowCount pairCount blockProfiles blockArrows hasBlock count
+  arrows-add : (M : Machine ℕ) (k : ℕ)
+      → arrowCount W M k Ps ts (blockProfiles W Ps ts) ≡ length Ps * k + total (blockArrows W Ps ts M k) ts
+  unfolding arrowCount pairCount blockProfiles blockArrows count
   arrows-add M k =
-      let has : Profile → Bool = λ t. someOf (λ P. rejectsNonEmpty 8 P t) Ps in
-      let pairs : Profile → ℕ = λ t. count (λ P. rejectsNonEmpty 8 P t) Ps in
+      let has : Profile → Bool = λ t. someOf (λ P. rejectsNonEmpty W P t) Ps in
+      let pairs : Profile → ℕ = λ t. count (λ P. rejectsNonEmpty W P t) Ps in
       let kept =
-      kept-arrows has k ((length ts + 1) * k) pairs (secondCount 8 M k ts) (λ t. none-counted (λ P. rejectsNonEmpty 8 P t) Ps) ts in
-      let swapped = total-swap (λ P t. cond (rejectsNonEmpty 8 P t) 1 0) Ps ts in
+      kept-arrows has k ((length ts + 1) * k) pairs (secondCount W M k ts) (λ t. none-counted (λ P. rejectsNonEmpty W P t) Ps) ts in
+      let swapped = total-swap (λ P t. cond (rejectsNonEmpty W P t) 1 0) Ps ts in
       omega (arith, kept, ap (λ n. k * n) swapped, mul-assoc (length (keep has ts)) (length ts + 1) k)
 
-module _ (M : Machine ℕ) (k : ℕ) (Ps : List ℕ) (ts : List Profile) where
+module _ (W : ℕ) (M : Machine ℕ) (k : ℕ) (Ps : List ℕ) (ts : List Profile) where
   abbrev all-states : ℕ
-  all-states = stateCount Ps ts (blockProfiles 8 Ps ts)
+  all-states = stateCount Ps ts (blockProfiles W Ps ts)
 
   abbrev all-lines : ℕ
-  all-lines = arrowCount 8 M k Ps ts (blockProfiles 8 Ps ts)
+  all-lines = arrowCount W M k Ps ts (blockProfiles W Ps ts)
 
   -- HOW FAR THE SIZE IS COUNTED: so many blocks, states and arrows so far, and those of the profiles from number j on are left
   pub record Sized (blocks states lines j : ℕ) : Type 0 where
-    pub blocks-left : Counting (hasBlock Ps) ts blocks j
-    pub states-left : Adding (blockStates Ps ts) ts all-states states j
-    pub lines-left : Adding (blockArrows Ps ts M k) ts all-lines lines j
+    pub blocks-left : Counting (hasBlock W Ps) ts blocks j
+    pub states-left : Adding (blockStates W Ps ts) ts all-states states j
+    pub lines-left : Adding (blockArrows W Ps ts M k) ts all-lines lines j
 
   -- an answer that it does not fit is right where a test of both fails
   no-fit : {state-room arrow-room : ℕ} {answer : Counts} → answer .fits ≡ false
-      → (leb all-states state-room && leb all-lines arrow-room) ≡ false → Counted M k Ps ts state-room arrow-room answer
+      → (leb all-states state-room && leb all-lines arrow-room) ≡ false → Counted W M k Ps ts state-room arrow-room answer
   no-fit e f =
       record { fits = e ∙ sym f; blocks = λ h. never (sym e ∙ h); states-are = λ h. never (sym e ∙ h); arrows-are = λ h. never (sym e ∙ h) }
 
@@ -132,48 +131,48 @@ module _ (M : Machine ℕ) (k : ℕ) (Ps : List ℕ) (ts : List Profile) where
   pub size-begins : Sized 0 (length Ps) (length Ps * k) 0
   size-begins =
       record {
-        blocks-left = count-begins (hasBlock Ps) ts;
-        states-left = add-begins (blockStates Ps ts) ts (states-add Ps ts);
-        lines-left = add-begins (blockArrows Ps ts M k) ts (arrows-add Ps ts M k);
+        blocks-left = count-begins (hasBlock W Ps) ts;
+        states-left = add-begins (blockStates W Ps ts) ts (states-add W Ps ts);
+        lines-left = add-begins (blockArrows W Ps ts M k) ts (arrows-add W Ps ts M k);
       }
 
   module _ {blocks states lines j : ℕ} (so : Sized blocks states lines j) where
     -- t is next, and rejects with so many sets other than the empty one
-    module _ (t : Profile) (next : drop j ts ≡ t ∷ drop (j + 1) ts) {pairs : ℕ} (are : pairs ≡ count (λ P. rejectsNonEmpty 8 P t) Ps) where
+    module _ (t : Profile) (next : drop j ts ≡ t ∷ drop (j + 1) ts) {pairs : ℕ} (are : pairs ≡ count (λ P. rejectsNonEmpty W P t) Ps) where
       -- with none: it adds nothing
       pub size-passes : pairs ≡ 0 → Sized blocks states lines (j + 1)
-      unfolding hasBlock blockStates blockArrows
+      unfolding blockStates blockArrows
       size-passes e =
-          let none : hasBlock Ps t ≡ false = no-pair-no-block Ps t are e in
+          let none : hasBlock W Ps t ≡ false = no-pair-no-block W Ps t are e in
           record {
-            blocks-left = count-next (hasBlock Ps) ts (so .blocks-left) t next (sym none) (inr (refl, refl));
-            states-left = add-next (blockStates Ps ts) ts (so .states-left) t next (rw none (omega arith));
-            lines-left = add-next (blockArrows Ps ts M k) ts (so .lines-left) t next (rw none (omega arith));
+            blocks-left = count-next (hasBlock W Ps) ts (so .blocks-left) t next (sym none) (inr (refl, refl));
+            states-left = add-next (blockStates W Ps ts) ts (so .states-left) t next (rw none (omega arith));
+            lines-left = add-next (blockArrows W Ps ts M k) ts (so .lines-left) t next (rw none (omega arith));
           }
 
       -- with some: it adds a block
-      pub size-grows : (pairs ≡ 0 → ⊥) → {size seconds : ℕ} → size ≡ length ts + 1 → seconds ≡ secondCount 8 M k ts t
+      pub size-grows : (pairs ≡ 0 → ⊥) → {size seconds : ℕ} → size ≡ length ts + 1 → seconds ≡ secondCount W M k ts t
           → Sized (blocks + 1) (states + size) (lines + (k * pairs + size * k) + seconds) (j + 1)
-      unfolding hasBlock blockStates blockArrows
+      unfolding blockStates blockArrows
       size-grows n e f =
-          let has : hasBlock Ps t ≡ true = pair-has-block Ps t are n in
+          let has : hasBlock W Ps t ≡ true = pair-has-block W Ps t are n in
           record {
-            blocks-left = count-next (hasBlock Ps) ts (so .blocks-left) t next (sym has) (inl (refl, refl));
-            states-left = add-next (blockStates Ps ts) ts (so .states-left) t next (rw (has, e));
-            lines-left = add-next (blockArrows Ps ts M k) ts (so .lines-left) t next (rw (has, e, f, are) (omega arith));
+            blocks-left = count-next (hasBlock W Ps) ts (so .blocks-left) t next (sym has) (inl (refl, refl));
+            states-left = add-next (blockStates W Ps ts) ts (so .states-left) t next (rw (has, e));
+            lines-left = add-next (blockArrows W Ps ts M k) ts (so .lines-left) t next (rw (has, e, f, are) (omega arith));
           }
 
     -- with so few profiles, sets and events all stay small: a block has at most 2049 states, and at most 16·256 + 2049·16 + 32784 arrows
     pub size-room : k ≤ 16 → length ts ≤ 2048 → length Ps ≤ 256 → (blocks ≤ 2048) × (states ≤ 4196608) × (lines ≤ 142675968)
     unfolding blockStates blockArrows
     size-room few-events few-profiles few-sets = (
-      omega (arith, so .blocks-left .adds .left, count-most (hasBlock Ps) ts),
-      omega (arith, so .states-left .left, states-add Ps ts, total-most 2049 (blockStates Ps ts) ts block-states),
+      omega (arith, so .blocks-left .adds .left, count-most (hasBlock W Ps) ts),
+      omega (arith, so .states-left .left, states-add W Ps ts, total-most 2049 (blockStates W Ps ts) ts block-states),
       omega (
         arith,
         so .lines-left .left,
-        arrows-add Ps ts M k,
-        total-most 69664 (blockArrows Ps ts M k) ts block-arrows,
+        arrows-add W Ps ts M k,
+        total-most 69664 (blockArrows W Ps ts M k) ts block-arrows,
         product few-sets few-events,
       ),
     )
@@ -185,39 +184,40 @@ module _ (M : Machine ℕ) (k : ℕ) (Ps : List ℕ) (ts : List Profile) where
         at-most true l = l
         at-most false l = omega arith
 
-        block-states : (t : Profile) → blockStates Ps ts t ≤ 2049
-        block-states t = at-most (hasBlock Ps t) (omega arith)
+        block-states : (t : Profile) → blockStates W Ps ts t ≤ 2049
+        block-states t = at-most (hasBlock W Ps t) (omega arith)
 
-        block-arrows : (t : Profile) → blockArrows Ps ts M k t ≤ 69664
+        block-arrows : (t : Profile) → blockArrows W Ps ts M k t ≤ 69664
         block-arrows t =
-            let pairs : ℕ = count (λ P. rejectsNonEmpty 8 P t) Ps in
-            let few-pairs : pairs ≤ 256 = omega (arith, count-most (λ P. rejectsNonEmpty 8 P t) Ps) in
+            let pairs : ℕ = count (λ P. rejectsNonEmpty W P t) Ps in
+            let few-pairs : pairs ≤ 256 = omega (arith, count-most (λ P. rejectsNonEmpty W P t) Ps) in
             let few-states : length ts + 1 ≤ 2049 = omega arith in
-            at-most (hasBlock Ps t)
-            (omega (arith, product few-events few-pairs, product few-states few-events, few-seconds M k t ts few-events few-profiles))
+            at-most (hasBlock W Ps t)
+            (omega (arith, product few-events few-pairs, product few-states few-events, few-seconds W M k t ts few-events few-profiles))
 
     module _ {state-room arrow-room : ℕ} where
       -- with more states so far than there is room for, or more arrows, the opposite does not fit
-      pub too-many-states : {answer : Counts} → answer .fits ≡ false → state-room < states → Counted M k Ps ts state-room arrow-room answer
+      pub too-many-states : {answer : Counts} → answer .fits ≡ false → state-room < states
+          → Counted W M k Ps ts state-room arrow-room answer
       too-many-states e l =
           let more : state-room < all-states = omega (arith, so .states-left .left) in
           no-fit e (rw (lt-leb all-states state-room more))
 
       pub too-many-lines : {answer : Counts} → answer .fits ≡ false → {n : ℕ} → arrow-room < n → n ≤ lines
-          → Counted M k Ps ts state-room arrow-room answer
+          → Counted W M k Ps ts state-room arrow-room answer
       too-many-lines e l h =
           let more : arrow-room < all-lines = omega (arith, so .lines-left .left) in
           no-fit e (rw (lt-leb all-lines arrow-room more) (and-false (leb all-states state-room)))
 
       -- at the end, with room for both, all is counted
       pub all-fit : drop j ts ≡ [] → states ≤ state-room → lines ≤ arrow-room
-          → Counted M k Ps ts state-room arrow-room (record { fits = true; blocks = blocks; states = states; arrows = lines })
+          → Counted W M k Ps ts state-room arrow-room (record { fits = true; blocks = blocks; states = states; arrows = lines })
       all-fit end h l =
-          let states-are : states ≡ all-states = add-ends (blockStates Ps ts) ts (so .states-left) end in
-          let arrows-are : lines ≡ all-lines = add-ends (blockArrows Ps ts M k) ts (so .lines-left) end in
+          let states-are : states ≡ all-states = add-ends (blockStates W Ps ts) ts (so .states-left) end in
+          let arrows-are : lines ≡ all-lines = add-ends (blockArrows W Ps ts M k) ts (so .lines-left) end in
           record {
             fits = sym (both (le-leb all-states state-room (omega arith)) (le-leb all-lines arrow-room (omega arith)));
-            blocks = λ _. count-ends (hasBlock Ps) ts (so .blocks-left) end ∙ sym (blocks-counted Ps ts);
+            blocks = λ _. count-ends (hasBlock W Ps) ts (so .blocks-left) end ∙ sym (blocks-counted W Ps ts);
             states-are = λ _. states-are;
             arrows-are = λ _. arrows-are;
           }

@@ -48,6 +48,66 @@ put-one n [] x h = absurd (omega arith)
 put-one zero (y ∷ old) x h = refl
 put-one (suc n) (y ∷ old) x h = ap (λ (r : List ℕ). y ∷ r) (put-one n old x (omega arith))
 
+-- LISTS WRITTEN TO ANY SLICES one behind the other: how a list is put there, and when there is room for it
+pub record Writer {Item Slices : Type 0} (put : ℕ → List Item → Slices → Slices) (Room : ℕ → List Item → Slices → Type 0) : Type 0 where
+  -- nothing written changes nothing, and one list and then the next behind it is both at once
+  pub nothing : (n : ℕ) (l : Slices) → put n [] l ≡ l
+  pub both : (n : ℕ) (l : Slices) (xs ys : List Item) → Room n xs l → put (n + length xs) ys (put n xs l) ≡ put n (xs ++ ys) l
+  -- room for both is room for the one and, once that is written, for the next
+  pub first : (n : ℕ) (l : Slices) (xs ys : List Item) → Room n (xs ++ ys) l → Room n xs l
+  pub second : (n : ℕ) (l : Slices) (xs ys : List Item) → Room n (xs ++ ys) l → Room (n + length xs) ys (put n xs l)
+
+-- ALL is to be written from place n on to the slices, which were base; now they are new, place is the next place, and rest is left to write
+pub record Underway {Item Slices : Type 0} (put : ℕ → List Item → Slices → Slices) (Room : ℕ → List Item → Slices → Type 0) (n : ℕ)
+    (all : List Item) (base new : Slices) (place : ℕ) (rest : List Item) : Type 0 where
+  pub by : Writer put Room
+  pub done : List Item
+  pub together : done ++ rest ≡ all
+  pub slices : new ≡ put n done base
+  pub at : place ≡ n + length done
+  pub room : Room n all base
+
+module _ {Item Slices : Type 0} {put : ℕ → List Item → Slices → Slices} {Room : ℕ → List Item → Slices → Type 0} {n : ℕ}
+    {all : List Item} {base : Slices} where
+  -- at first nothing is written
+  pub start : Writer put Room → Room n all base → Underway put Room n all base base n all
+  start by r = record { by = by; done = []; together = refl; slices = sym (by .nothing n base); at = sym (add-zero n); room = r }
+
+  module _ {new : Slices} {place : ℕ} {rest : List Item} (w : Underway put Room n all base new place rest) where
+    whole-room : Room n (w .done ++ rest) base
+    whole-room = rw (w .together) (w .room)
+
+    -- there was room for what is written
+    pub done-room : Room n (w .done) base
+    done-room = w .by .first n base (w .done) rest whole-room
+
+    -- there is room for what comes next
+    pub room-next : (xs ys : List Item) → rest ≡ xs ++ ys → Room place xs new
+    room-next xs ys e = w .by .first place new xs ys (rw (← e, w .at, w .slices) (w .by .second n base (w .done) rest whole-room))
+
+    -- it was written, and less is left
+    pub put-next : (xs ys : List Item) → rest ≡ xs ++ ys → {newer : Slices} {behind : ℕ} → newer ≡ put place xs new
+        → behind ≡ place + length xs → Underway put Room n all base newer behind ys
+    put-next xs ys e p b =
+        record {
+          by = w .by;
+          done = w .done ++ xs;
+          together = append-assoc (w .done) xs ys ∙ ap (λ (r : List Item). w .done ++ r) (sym e) ∙ w .together;
+          slices = p ∙ ap₂ (λ m l. put m xs l) (w .at) (w .slices) ∙ w .by .both n base (w .done) xs done-room;
+          at = omega (arith, b, w .at, length-append (w .done) xs);
+          room = w .room;
+        }
+
+    -- what is left can be said in another way
+    pub left-as : {other : List Item} → rest ≡ other → Underway put Room n all base new place other
+    left-as e = rw (← e) w
+
+    -- at the end all is written
+    pub all-put : rest ≡ [] → (new ≡ put n all base) × (place ≡ n + length all)
+    all-put e =
+        let is-all : w .done ≡ all = sym (append-nil (w .done)) ∙ ap (λ (r : List Item). w .done ++ r) (sym e) ∙ w .together in
+        (w .slices ∙ ap (λ (es : List Item). put n es base) is-all, w .at ∙ ap (λ (es : List Item). n + length es) is-all)
+
 -- THREE SLICES
 -- two are the same where their three lists are
 same-slices : {f g : List ℕ} {a b : List ℕ} {p q : List ℕ} → f ≡ g → a ≡ b → p ≡ q
@@ -98,73 +158,42 @@ puts-lengths n l es r =
       to = put-length n (l .to) (map (λ e. e .to) es) (simp length-map (r .to-room));
     }
 
--- ALL is to be written from place n on to the slices, which were base; now they are new, place is the next place, and rest is left to write
-pub record Writing (n : ℕ) (all : List Arrow) (base new : ArrowSlices) (place : ℕ) (rest : List Arrow) : Type 0 where
-  pub done : List Arrow
-  pub together : done ++ rest ≡ all
-  pub slices : new ≡ put n done base
-  pub at : place ≡ n + length done
-  pub room : Room n all base
-
--- there is room for less
-less-room : {n : ℕ} (xs ys : List Arrow) {all : List Arrow} {l : ArrowSlices} → xs ++ ys ≡ all → Room n all l → Room n xs l
-less-room xs ys e r =
-    let long = ap length (sym e) ∙ length-append xs ys in
+-- there is room for no more than before in slices as long as before
+less-room : {n m : ℕ} {xs ys : List Arrow} {old new : ArrowSlices} → m + length ys ≤ n + length xs → SameLengths old new → Room n xs old
+    → Room m ys new
+less-room h s r =
     record {
-      from-room = omega (arith, r .from-room);
-      event-room = omega (arith, r .event-room);
-      to-room = omega (arith, r .to-room);
+      from-room = omega (arith, r .from-room, s .from);
+      event-room = omega (arith, r .event-room, s .event);
+      to-room = omega (arith, r .to-room, s .to);
     }
+
+arrows-writer : Writer put Room
+arrows-writer = record { nothing = puts-nothing; both = puts-both; first = first; second = second }
+  where
+    first : (n : ℕ) (l : ArrowSlices) (xs ys : List Arrow) → Room n (xs ++ ys) l → Room n xs l
+    first n l xs ys r = less-room (omega (arith, length-append xs ys)) (record { from = refl; event = refl; to = refl }) r
+
+    second : (n : ℕ) (l : ArrowSlices) (xs ys : List Arrow) → Room n (xs ++ ys) l → Room (n + length xs) ys (put n xs l)
+    second n l xs ys r = less-room (omega (arith, length-append xs ys)) (puts-lengths n l xs (first n l xs ys r)) r
+
+abbrev pub Writing : ℕ → List Arrow → ArrowSlices → ArrowSlices → ℕ → List Arrow → Type 0
+Writing = Underway put Room
 
 -- at first nothing is written
 pub begin : {n : ℕ} {all : List Arrow} {base : ArrowSlices} → Room n all base → Writing n all base base n all
-begin {n} {all} {base} r =
-    record { done = []; together = refl; slices = sym (puts-nothing n base); at = sym (add-zero n); room = r }
+begin = start arrows-writer
 
 module _ {n : ℕ} {all : List Arrow} {base new : ArrowSlices} {place : ℕ} {rest : List Arrow} (w : Writing n all base new place rest) where
   -- the slices are as long as at first
   pub same-lengths : SameLengths base new
-  same-lengths = rw (w .slices) (puts-lengths n base (w .done) (less-room (w .done) rest (w .together) (w .room)))
+  same-lengths = rw (w .slices) (puts-lengths n base (w .done) (done-room w))
 
-  -- there is room for what comes next
-  pub room-next : (xs ys : List Arrow) → rest ≡ xs ++ ys → Room place xs new
-  room-next xs ys e =
-      let all-of : w .done ++ (xs ++ ys) ≡ all = ap (λ (r : List Arrow). w .done ++ r) (sym e) ∙ w .together in
-      let long = ap length (sym all-of) ∙ length-append (w .done) (xs ++ ys) in
-      let part = length-append xs ys in
-      record {
-        from-room = omega (arith, w .at, w .room .from-room, same-lengths .from);
-        event-room = omega (arith, w .at, w .room .event-room, same-lengths .event);
-        to-room = omega (arith, w .at, w .room .to-room, same-lengths .to);
-      }
-
-  -- it was written, and less is left
+  -- the next were written
   pub write-next : (xs ys : List Arrow) → rest ≡ xs ++ ys → {newer : ArrowSlices} {behind : ℕ} → Puts place xs new newer behind
       → Writing n all base newer behind ys
-  write-next xs ys e p =
-      record {
-        done = w .done ++ xs;
-        together = append-assoc (w .done) xs ys ∙ ap (λ (r : List Arrow). w .done ++ r) (sym e) ∙ w .together;
-        slices =
-            p .slices ∙ ap₂ (λ m l. put m xs l) (w .at) (w .slices)
-            ∙ puts-both n base (w .done) xs (less-room (w .done) rest (w .together) (w .room));
-        at = omega (arith, p .behind, w .at, length-append (w .done) xs);
-        room = w .room;
-      }
-
-  -- what is left can be said in another way
-  pub left-as : {other : List Arrow} → rest ≡ other → Writing n all base new place other
-  left-as e =
-      record {
-        done = w .done;
-        together = ap (λ (r : List Arrow). w .done ++ r) (sym e) ∙ w .together;
-        slices = w .slices;
-        at = w .at;
-        room = w .room;
-      }
+  write-next xs ys e p = put-next w xs ys e (p .slices) (p .behind)
 
   -- at the end all is written
   pub all-written : rest ≡ [] → Puts n all base new place
-  all-written e =
-      let is-all : w .done ≡ all = sym (append-nil (w .done)) ∙ ap (λ (r : List Arrow). w .done ++ r) (sym e) ∙ w .together in
-      record { slices = w .slices ∙ ap (λ es. put n es base) is-all; behind = w .at ∙ ap (λ (es : List Arrow). n + length es) is-all }
+  all-written e = record { slices = all-put w e .0; behind = all-put w e .1 }

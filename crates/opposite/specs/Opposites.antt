@@ -16,7 +16,6 @@ use Rattle.closing.specs.Memory.{setsIn, profilesIn}
 use Rattle.closing.specs.Closing.{Closing}
 use Rattle.closing.specs.declared.Closed.{Closed}
 use Rattle.opposite.specs.Memory.{arrowsIn, flagsIn}
-use Rattle.opposite.specs.declared.counts.Counts.{Counts}
 use Rattle.opposite.specs.declared.Answer.{Answer}
 use Rattle.opposite.specs.declared.Answer.the-variants.{Written, Refused}
 
@@ -34,11 +33,6 @@ unfoldable pub told : Answer → Told
 told (Written s p q a) = record { number = 0; written = true; sets = s; profiles = p; states = q; arrows = a }
 told (Refused n s p) = record { number = n; written = false; sets = s; profiles = p; states = 0; arrows = 0 }
 
--- the answer after closing without refusal, from what was drawn: 7 where the opposite does not fit
-unfoldable pub answerOf : Counts → ℕ → ℕ → Answer
-answerOf drawn sets profiles =
-    elim (drawn .fits) [ true ↦ Written sets profiles (drawn .states) (drawn .arrows) | false ↦ Refused 7 sets profiles ]
-
 -- what document 01's answer tells
 unfoldable pub tells : OppositeAnswer → Told
 tells d =
@@ -51,23 +45,24 @@ tells d =
       arrows = length (d .arrows);
     }
 
+-- document 01's count of states, from the first so many sets and profiles in the slices
+unfoldable pub statesOf : SetSlices → ProfileSlices → Closed → ℕ
+statesOf S T c =
+    let Ps : List ℕ = values (setsIn S (c .sets)) in
+    let ts = values (profilesIn T (c .profiles)) in
+    stateCount Ps ts (blockProfiles 8 Ps ts)
+
 module _ (m : Model) (arrows : List ℕ) where
-  -- the answer of document 01 for these slices
-  abbrev pub due : SetSlices → ProfileSlices → OppositeSlices → OppositeAnswer
-  due S T O = oppositeIn eight (asked m arrows) S T O
-
-  -- document 01's counts of states and of arrows, from the first so many sets and profiles in the slices
-  unfoldable pub statesOf : SetSlices → ProfileSlices → Closed → ℕ
-  statesOf S T c =
-      let Ps : List ℕ = values (setsIn S (c .sets)) in
-      let ts = values (profilesIn T (c .profiles)) in
-      stateCount Ps ts (blockProfiles 8 Ps ts)
-
+  -- and of arrows, for the model and the lent numbers
   unfoldable pub arrowsOf : SetSlices → ProfileSlices → Closed → ℕ
   arrowsOf S T c =
       let Ps : List ℕ = values (setsIn S (c .sets)) in
       let ts = values (profilesIn T (c .profiles)) in
       arrowCount 8 (machine 8 (asked m arrows)) (m .k) Ps ts (blockProfiles 8 Ps ts)
+
+  -- the answer of document 01 for these slices
+  abbrev pub due : SetSlices → ProfileSlices → OppositeSlices → OppositeAnswer
+  due S T O = oppositeIn eight (asked m arrows) S T O
 
   -- THE CONTRACT OF THE OPPOSITE: S, T and O are as they were lent, S′, T′ and O′ as they are left
   pub record WritesOpposite (S S′ : SetSlices) (T T′ : ProfileSlices) (O O′ : OppositeSlices) (answer : Answer) : Type 0 where

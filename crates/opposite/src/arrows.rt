@@ -91,9 +91,9 @@ fn leads_on(
 ) -> usize
     requires { ⌜ Unrefused eight (asked m (now lent)) ⌝ }
     requires { ⌜ (length (now marks) ≡ length (now arrows)) × (gate + 1 + length (now arrows) ≤ 65535) × (p ≤ 65535) ⌝ }
-    requires { ⌜ Room n (leadsOn (machine 8 (asked m (now lent))) (m .k) (profilesAt (now arrows) (now marks)) gate (profile t) p (beforeOf x))
-        (arrowMemory (now from) (now event) (now to)) ⌝ }
-    ensures { λ r. ⌜ Puts n (leadsOn (machine 8 (asked m (now (lent .entry)))) (m .k)
+    requires { ⌜ Room n (leadsOn 8 (machine 8 (asked m (now lent))) (m .k) (profilesAt (now arrows) (now marks))
+        gate (profile t) p (beforeOf x)) (arrowMemory (now from) (now event) (now to)) ⌝ }
+    ensures { λ r. ⌜ Puts n (leadsOn 8 (machine 8 (asked m (now (lent .entry)))) (m .k)
         (profilesAt (now (arrows .entry)) (now (marks .entry))) gate (profile t) p (beforeOf x))
         (arrowMemory (now (from .entry)) (now (event .entry)) (now (to .entry)))
         (arrowMemory (now (from .exit)) (now (event .exit)) (now (to .exit))) r ⌝ }
@@ -123,9 +123,9 @@ fn block(
 ) -> usize
     requires { ⌜ Unrefused eight (asked m (now lent)) ⌝ }
     requires { ⌜ (length (now marks) ≡ length (now arrows)) × (gate + 1 + length (now arrows) ≤ 65535) ⌝ }
-    requires { ⌜ Room n (blockAt (machine 8 (asked m (now lent))) (m .k) (profilesAt (now arrows) (now marks)) gate (profile t))
+    requires { ⌜ Room n (blockAt 8 (machine 8 (asked m (now lent))) (m .k) (profilesAt (now arrows) (now marks)) gate (profile t))
         (arrowMemory (now from) (now event) (now to)) ⌝ }
-    ensures { λ r. ⌜ Puts n (blockAt (machine 8 (asked m (now (lent .entry)))) (m .k)
+    ensures { λ r. ⌜ Puts n (blockAt 8 (machine 8 (asked m (now (lent .entry)))) (m .k)
         (profilesAt (now (arrows .entry)) (now (marks .entry))) gate (profile t))
         (arrowMemory (now (from .entry)) (now (event .entry)) (now (to .entry)))
         (arrowMemory (now (from .exit)) (now (event .exit)) (now (to .exit))) r ⌝ }
@@ -186,10 +186,10 @@ pub fn blocks(
     requires { ⌜ Unrefused eight (asked m (now lent)) ⌝ }
     requires { ⌜ (length (now marks) ≡ length (now arrows)) × (length (now shown) ≤ length (now arrows))
         × (first + length (keepBy (now shown) (profilesAt (now arrows) (now marks))) * (length (now arrows) + 1) ≤ 65535) ⌝ }
-    requires { ⌜ Room n (blocksFrom (machine 8 (asked m (now lent))) (m .k) (profilesAt (now arrows) (now marks)) first
+    requires { ⌜ Room n (blocksFrom 8 (machine 8 (asked m (now lent))) (m .k) (profilesAt (now arrows) (now marks)) first
         (keepBy (now shown) (profilesAt (now arrows) (now marks))))
         (arrowMemory (now from) (now event) (now to)) ⌝ }
-    ensures { λ r. ⌜ Puts n (blocksFrom (machine 8 (asked m (now (lent .entry)))) (m .k)
+    ensures { λ r. ⌜ Puts n (blocksFrom 8 (machine 8 (asked m (now (lent .entry)))) (m .k)
         (profilesAt (now (arrows .entry)) (now (marks .entry))) first
         (keepBy (now (shown .entry)) (profilesAt (now (arrows .entry)) (now (marks .entry)))))
         (arrowMemory (now (from .entry)) (now (event .entry)) (now (to .entry)))
@@ -233,11 +233,11 @@ fn into_blocks(
     requires { ⌜ (length (now marks) ≡ length (now arrows)) × (length (now shown) ≤ length (now arrows)) × (e ≤ length (now arrows))
         × (i ≤ 65535) × (a ≤ 255)
         × (first + length (keepBy (now shown) (profilesAt (now arrows) (now marks))) * (length (now arrows) + 1) ≤ 65535) ⌝ }
-    requires { ⌜ everyOf isIdempotent (keepBy (now shown) (profilesAt (now arrows) (now marks))) ≡ true ⌝ }
-    requires { ⌜ Room n (intoBlocks (profilesAt (now arrows) (now marks)) set i a e first
+    requires { ⌜ everyOf (isIdempotent 8) (keepBy (now shown) (profilesAt (now arrows) (now marks))) ≡ true ⌝ }
+    requires { ⌜ Room n (intoBlocks 8 (profilesAt (now arrows) (now marks)) set i a e first
         (keepBy (now shown) (profilesAt (now arrows) (now marks))))
         (arrowMemory (now from) (now event) (now to)) ⌝ }
-    ensures { λ r. ⌜ Puts n (intoBlocks (profilesAt (now (arrows .entry)) (now (marks .entry))) set i a e first
+    ensures { λ r. ⌜ Puts n (intoBlocks 8 (profilesAt (now (arrows .entry)) (now (marks .entry))) set i a e first
         (keepBy (now (shown .entry)) (profilesAt (now (arrows .entry)) (now (marks .entry)))))
         (arrowMemory (now (from .entry)) (now (event .entry)) (now (to .entry)))
         (arrowMemory (now (from .exit)) (now (event .exit)) (now (to .exit))) r ⌝ }
@@ -284,11 +284,11 @@ fn from_set(
     requires { ⌜ Unrefused eight (asked m (now lent)) ⌝ }
     requires { ⌜ (length (now marks) ≡ length (now arrows)) × (length (now shown) ≤ length (now arrows)) × (i ≤ 65535)
         × (length (now masks) + length (keepBy (now shown) (profilesAt (now arrows) (now marks))) * (length (now arrows) + 1) ≤ 65535) ⌝ }
-    requires { ⌜ everyOf isIdempotent (keepBy (now shown) (profilesAt (now arrows) (now marks))) ≡ true ⌝ }
-    requires { ⌜ Room n (eachBelow (m .k) (setOn (machine 8 (asked m (now lent))) (m .k) (now masks) (profilesAt (now arrows) (now marks))
+    requires { ⌜ everyOf (isIdempotent 8) (keepBy (now shown) (profilesAt (now arrows) (now marks))) ≡ true ⌝ }
+    requires { ⌜ Room n (eachBelow (m .k) (setOn 8 (machine 8 (asked m (now lent))) (m .k) (now masks) (profilesAt (now arrows) (now marks))
         (keepBy (now shown) (profilesAt (now arrows) (now marks))) i set))
         (arrowMemory (now from) (now event) (now to)) ⌝ }
-    ensures { λ r. ⌜ Puts n (eachBelow (m .k) (setOn (machine 8 (asked m (now (lent .entry)))) (m .k) (now (masks .entry))
+    ensures { λ r. ⌜ Puts n (eachBelow (m .k) (setOn 8 (machine 8 (asked m (now (lent .entry)))) (m .k) (now (masks .entry))
         (profilesAt (now (arrows .entry)) (now (marks .entry)))
         (keepBy (now (shown .entry)) (profilesAt (now (arrows .entry)) (now (marks .entry)))) i set))
         (arrowMemory (now (from .entry)) (now (event .entry)) (now (to .entry)))
@@ -335,11 +335,11 @@ pub fn sets(
     requires { ⌜ Unrefused eight (asked m (now lent)) ⌝ }
     requires { ⌜ (length (now marks) ≡ length (now arrows)) × (length (now shown) ≤ length (now arrows))
         × (length (now masks) + length (keepBy (now shown) (profilesAt (now arrows) (now marks))) * (length (now arrows) + 1) ≤ 65535) ⌝ }
-    requires { ⌜ everyOf isIdempotent (keepBy (now shown) (profilesAt (now arrows) (now marks))) ≡ true ⌝ }
-    requires { ⌜ Room n (setsFrom (machine 8 (asked m (now lent))) (m .k) (now masks) (profilesAt (now arrows) (now marks))
+    requires { ⌜ everyOf (isIdempotent 8) (keepBy (now shown) (profilesAt (now arrows) (now marks))) ≡ true ⌝ }
+    requires { ⌜ Room n (setsFrom 8 (machine 8 (asked m (now lent))) (m .k) (now masks) (profilesAt (now arrows) (now marks))
         (keepBy (now shown) (profilesAt (now arrows) (now marks))) 0 (now masks))
         (arrowMemory (now from) (now event) (now to)) ⌝ }
-    ensures { λ r. ⌜ Puts n (setsFrom (machine 8 (asked m (now (lent .entry)))) (m .k) (now (masks .entry))
+    ensures { λ r. ⌜ Puts n (setsFrom 8 (machine 8 (asked m (now (lent .entry)))) (m .k) (now (masks .entry))
         (profilesAt (now (arrows .entry)) (now (marks .entry)))
         (keepBy (now (shown .entry)) (profilesAt (now (arrows .entry)) (now (marks .entry)))) 0 (now (masks .entry)))
         (arrowMemory (now (from .entry)) (now (event .entry)) (now (to .entry)))

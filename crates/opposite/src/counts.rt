@@ -32,7 +32,7 @@ pub struct Counts {
 
 // The set is not empty, the profile leads it exactly to itself, and no state of it back to itself with a mark.
 pub fn stays_unmarked(set: u8, t: Profile) -> bool
-    ensures { λ b. ⌜ b ≡ staysUnmarked set (profile t) ⌝ }
+    ensures { λ b. ⌜ b ≡ staysUnmarked 8 set (profile t) ⌝ }
 {
     if set == 0 {
         return false;
@@ -127,7 +127,7 @@ pub fn count(
     requires { ⌜ Unrefused eight (asked m (now lent)) ⌝ }
     requires { ⌜ (length (now marks) ≡ length (now arrows)) × (length (now arrows) ≤ 2048) × (length (now masks) ≤ 256) ⌝ }
     requires { ⌜ («state_room» ≤ 65535) × («arrow_room» ≤ 65535) ⌝ }
-    ensures { λ r. ⌜ Counted (machine 8 (asked m (now (lent .entry)))) (m .k) (now (masks .entry))
+    ensures { λ r. ⌜ Counted 8 (machine 8 (asked m (now (lent .entry)))) (m .k) (now (masks .entry))
         (profilesAt (now (arrows .entry)) (now (marks .entry))) «state_room» «arrow_room» r ⌝ }
 {
     let size = arrows.len() + 1;

@@ -26,7 +26,8 @@ const LIMIT: usize = 65535;
 
 // The room for arrows: the least of their slices and the limit.
 fn arrow_room(from: &[u16], event: &[u8], to: &[u16]) -> usize
-    ensures { λ r. ⌜ ((flags : List ℕ) → r ≡ arrowRoom (oppositeMemory (now (from .entry)) (now (event .entry)) (now (to .entry)) flags)) ⌝ }
+    ensures { λ r. ⌜ ((flags : List ℕ)
+        → r ≡ arrowRoom (oppositeMemory (now (from .entry)) (now (event .entry)) (now (to .entry)) flags)) ⌝ }
 {
     least(least(from.len(), least(event.len(), to.len())), LIMIT)
 }
@@ -53,9 +54,9 @@ fn write_all(
 )
     requires { ⌜ Unrefused eight (asked m (now lent)) ⌝ }
     requires { ⌜ length (now marks) ≡ length (now arrows) ⌝ }
-    requires { ⌜ Fitting (machine 8 (asked m (now lent))) (m .k) (now masks) (profilesAt (now arrows) (now marks))
+    requires { ⌜ Fitting 8 (machine 8 (asked m (now lent))) (m .k) (now masks) (profilesAt (now arrows) (now marks))
         (oppositeMemory (now from) (now event) (now to) (now flags)) count ⌝ }
-    ensures { λ _. ⌜ Drawn (machine 8 (asked m (now (lent .entry)))) (m .k) (now (masks .entry))
+    ensures { λ _. ⌜ Drawn 8 (machine 8 (asked m (now (lent .entry)))) (m .k) (now (masks .entry))
         (profilesAt (now (arrows .entry)) (now (marks .entry)))
         (oppositeMemory (now (from .entry)) (now (event .entry)) (now (to .entry)) (now (flags .entry)))
         (oppositeMemory (now (from .exit)) (now (event .exit)) (now (to .exit)) (now (flags .exit))) ⌝ }
@@ -79,7 +80,7 @@ fn write_all(
         to,
         0,
     );
-    let end = blocks(
+    blocks(
         m,
         lent,
         arrows,
@@ -108,7 +109,7 @@ pub fn draw(
 ) -> Counts
     requires { ⌜ Unrefused eight (asked m (now lent)) ⌝ }
     requires { ⌜ (length (now marks) ≡ length (now arrows)) × (length (now arrows) ≤ 2048) × (length (now masks) ≤ 256) ⌝ }
-    ensures { λ r. ⌜ Draws (machine 8 (asked m (now (lent .entry)))) (m .k) (now (masks .entry))
+    ensures { λ r. ⌜ Draws 8 (machine 8 (asked m (now (lent .entry)))) (m .k) (now (masks .entry))
         (profilesAt (now (arrows .entry)) (now (marks .entry)))
         (oppositeMemory (now (from .entry)) (now (event .entry)) (now (to .entry)) (now (flags .entry)))
         (oppositeMemory (now (from .exit)) (now (event .exit)) (now (to .exit)) (now (flags .exit))) r ⌝ }

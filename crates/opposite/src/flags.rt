@@ -5,7 +5,8 @@ ghost use mathlib.Core.Bool.{cond};
 ghost use mathlib.Core.List.{_∷_, map};
 ghost use lib.ListN.{length, replicate};
 ghost use Rattle.laws.specs.Answers.{over};
-ghost use Rattle.opposite.specs.Tables.{profilesAt, hasBlock};
+ghost use Rattle.opposite.specs.Tables.{profilesAt};
+ghost use Rattle.laws.specs.Opposite.{hasBlock};
 ghost use Rattle.opposite.specs.Memory.{putAt};
 ghost use Rattle.opposite.specs.Drawing.{flagsOf};
 use crate::counts::pairs_of;
@@ -15,7 +16,7 @@ use profile::Profile;
 pub fn show(masks: &[u8], arrows: &[u64], marks: &[u64], shown: &mut [u8])
     requires { ⌜ (length (now marks) ≡ length (now arrows)) × (length (now shown) ≡ length (now arrows)) ⌝ }
     ensures { λ _. ⌜ now (shown .exit)
-        ≡ map (λ t. cond (hasBlock (now (masks .entry)) t) 1 0) (profilesAt (now (arrows .entry)) (now (marks .entry))) ⌝ }
+        ≡ map (λ t. cond (hasBlock 8 (now (masks .entry)) t) 1 0) (profilesAt (now (arrows .entry)) (now (marks .entry))) ⌝ }
 {
     let mut j = 0;
     while j < arrows.len() {

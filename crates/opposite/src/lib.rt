@@ -9,7 +9,8 @@ mod tables;
 ghost use mathlib.Core.Path.{_≡_};
 ghost use Rattle.closing.specs.Memory.{setMemory, profileMemory};
 ghost use Rattle.opposite.specs.Memory.{oppositeMemory};
-ghost use Rattle.opposite.specs.Opposites.{WritesOpposite, answerOf};
+ghost use Rattle.opposite.specs.Drawing.{answerOf};
+ghost use Rattle.opposite.specs.Opposites.{WritesOpposite};
 use closing::close;
 use counts::Counts;
 use model::Model;
@@ -49,8 +50,8 @@ fn answered(drawn: Counts, sets: usize, profiles: usize) -> Answer
     }
 }
 
-// Closes a model as `close` does and writes its opposite: arrows to three slices, sorted by from, event and to, and a flag for each state to
-// a fourth, 1 where it accepts. Takes any model and any slices.
+// Closes a model as `close` does and writes its opposite: arrows to three slices, sorted by from, event and to, and a flag for each state
+// to a fourth, 1 where it accepts. Takes any model and any slices.
 pub fn opposite(
     m: Model,
     arrows: &[u64],

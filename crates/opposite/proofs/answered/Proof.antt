@@ -1,5 +1,5 @@
 -- The branches are the two cases of what was drawn.
-use Rattle.opposite.specs.Opposites.{answerOf}
+use Rattle.opposite.specs.Drawing.{answerOf}
 use Rattle.opposite.proofs.answered.Statement.{statement}
 use Rattle.opposite.proofs.answered.Tie as tie
 

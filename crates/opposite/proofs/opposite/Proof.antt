@@ -6,7 +6,7 @@ use lib.Seq.{length-take-le}
 use borrow.Author.Needs.{needs}
 use Rattle.closing.proofs.Promises.{sets-stand, profiles-stand}
 use Rattle.opposite.specs.Opposites.{WritesOpposite}
-use Rattle.opposite.proofs.Concluding.{refuses, same-places, few-profiles, few-sets, unrefused, draws}
+use Rattle.opposite.proofs.Concluding.{refuses, drawable, draws}
 use Rattle.opposite.proofs.opposite.Statement.{statement}
 use Rattle.opposite.proofs.opposite.Tie as tie
 
@@ -75,45 +75,47 @@ draw-requires c κs =
     let e = c .before .before .before .before .before .before .before in
     let closed = e .before .before .before .before .before .before .before .before in
     let d = closed .before .before .before .before .before .before .before .before .close .ensures in
-    (unrefused d (e .if1 .left), (same-places d, few-profiles d, few-sets d))
+    drawable d (e .if1 .left)
 
 answered-requires : tie.Need-answered-requires
 answered-requires c κs = search needs
 
 same-length-8 : tie.Need-same-length-8
 same-length-8 c =
-    let e = c .before .before .before .before .before .before .before .before .before .before .before .before .before .before .before .before in
-    e .before .before .before .before .before .before .before .before .before .before .before .before .before .before .before .before .set-masks .given
+    let e = c .before .before .before .before .before .before .before .before .before .before .before .before .before .before .before in
+    let f = e .before .before .before .before .before .before .before .before in
+    f .before .before .before .before .before .before .before .before .before .set-masks .given
 
 same-length-9 : tie.Need-same-length-9
 same-length-9 c =
-    let e = c .before .before .before .before .before .before .before .before .before .before .before .before .before .before .before .before in
-    e .before .before .before .before .before .before .before .before .before .before .before .before .before .before .set-from .given
+    let e = c .before .before .before .before .before .before .before .before .before .before .before .before .before .before .before in
+    let f = e .before .before .before .before .before .before .before .before in
+    f .before .before .before .before .before .before .before .set-from .given
 
 same-length-10 : tie.Need-same-length-10
 same-length-10 c =
-    let e = c .before .before .before .before .before .before .before .before .before .before .before .before .before .before .before .before in
-    e .before .before .before .before .before .before .before .before .before .before .before .before .set-event .given
+    let e = c .before .before .before .before .before .before .before .before .before .before .before .before .before .before .before in
+    e .before .before .before .before .before .before .before .before .before .before .before .before .before .set-event .given
 
 same-length-11 : tie.Need-same-length-11
 same-length-11 c =
-    let e = c .before .before .before .before .before .before .before .before .before .before .before .before .before .before .before .before in
-    e .before .before .before .before .before .before .before .before .before .before .profile-arrows .given
+    let e = c .before .before .before .before .before .before .before .before .before .before .before .before .before .before .before in
+    e .before .before .before .before .before .before .before .before .before .before .before .profile-arrows .given
 
 same-length-12 : tie.Need-same-length-12
 same-length-12 c =
-    let e = c .before .before .before .before .before .before .before .before .before .before .before .before .before .before .before .before in
-    e .before .before .before .before .before .before .before .before .profile-marks .given
+    let e = c .before .before .before .before .before .before .before .before .before .before .before .before .before .before .before in
+    e .before .before .before .before .before .before .before .before .before .profile-marks .given
 
 same-length-13 : tie.Need-same-length-13
 same-length-13 c =
-    let e = c .before .before .before .before .before .before .before .before .before .before .before .before .before .before .before .before in
-    e .before .before .before .before .before .before .profile-from .given
+    let e = c .before .before .before .before .before .before .before .before .before .before .before .before .before .before .before in
+    e .before .before .before .before .before .before .before .profile-from .given
 
 same-length-14 : tie.Need-same-length-14
 same-length-14 c =
-    let e = c .before .before .before .before .before .before .before .before .before .before .before .before .before .before .before .before in
-    e .before .before .before .before .profile-event .given
+    let e = c .before .before .before .before .before .before .before .before .before .before .before .before .before .before .before in
+    e .before .before .before .before .before .profile-event .given
 
 same-length-15 : tie.Need-same-length-15
 same-length-15 c = c .before .before .before .before .before .before .before .before .from .given

@@ -3,29 +3,24 @@
 use Prim.Native.Nat.{_+_, _≤_, _-_}
 use native.Mathlib.Omega.{arith}
 use mathlib.Core.Path.{_∙_}
-use mathlib.Core.List.{List}
 use borrow.Author.Needs.{needs}
 use lib.ListN.{length}
 use Rattle.laws.specs.Model.{machine}
-use Rattle.laws.specs.Profiles.{Profile}
 use Rattle.model.specs.Asked.{asked}
 use Rattle.profile.specs.Values.{profile}
 use Rattle.opposite.specs.Tables.{profilesAt}
 use Rattle.opposite.specs.Memory.{arrowMemory}
-use Rattle.opposite.specs.Drawing.{statesFrom}
 use Rattle.opposite.proofs.Rows.{next-profile, no-profile}
-use Rattle.opposite.proofs.Writing.{Writing, begin, room-next, write-next, left-as, all-written, same-lengths}
-use Rattle.opposite.proofs.Leading.{first-room, second-room, both-written}
-use Rattle.opposite.proofs.Leading.{gate-first, statesLeft, states-first, states-next, states-last}
+use Rattle.opposite.proofs.Writing.{same-lengths}
+use Rattle.opposite.proofs.Leading.{StatesLeading, gate-room, states-begin, state-room, state-written, states-done}
 use Rattle.opposite.proofs.arrows.block.Statement.{statement}
 use Rattle.opposite.proofs.arrows.block.Tie as tie
 
 abbrev Inv-loop : tie.InvT-loop
 Inv-loop m lent arrows marks gate t from₀ event₀ to₀ n place₀ i₀ from event to place i =
-    let ts : List Profile = profilesAt arrows marks in
     (i ≤ length arrows)
-    × Writing place₀ (statesFrom (machine 8 (asked m lent)) (m .k) ts gate (profile t) (gate + 1) ts)
-    (arrowMemory from₀ event₀ to₀) (arrowMemory from event to) place (statesLeft (machine 8 (asked m lent)) (m .k) ts gate (profile t) i)
+    × StatesLeading 8 (machine 8 (asked m lent)) (m .k) (profilesAt arrows marks) gate (profile t) place₀ (arrowMemory from₀ event₀ to₀)
+    (arrowMemory from event to) place i
 
 abbrev μ-loop : tie.MeasureT-loop
 μ-loop m lent arrows marks gate t from₀ event₀ to₀ n place₀ i₀ from event to place i = length arrows - i
@@ -33,14 +28,14 @@ abbrev μ-loop : tie.MeasureT-loop
 leads-on-requires : tie.Need-leads-on-requires Inv-loop μ-loop
 leads-on-requires c κs =
     let start = c .before .before .before .before .before .before .before .before .before in
-    (start .pre .0, (search needs, first-room (start .pre .1 .1) _ _ (gate-first _ _ _ _ _)))
+    (start .pre .0, (search needs, gate-room 8 _ _ _ _ _ (start .pre .1 .1)))
 
 loop-holds : tie.Need-loop-holds Inv-loop μ-loop
 loop-holds c =
     let called = c .before .before .before .before .before .before in
     let start = called .before .before .before .before .before .before .before .before .before .before in (
       omega arith,
-      left-as (begin (second-room (start .pre .1 .1) _ _ (gate-first _ _ _ _ _) (called .leads-on .ensures))) (states-first _ _ _ _ _),
+      states-begin 8 _ _ _ _ _ (start .pre .1 .1) (called .leads-on .ensures),
     )
 
 mul-t22 : tie.Need-mul-t22 Inv-loop μ-loop
@@ -69,8 +64,7 @@ leads-on-requires-2 c κs =
       start .pre .0,
       (
         search needs,
-        room-next (turn .before .loop .inv .1) _ _
-            (states-next _ _ _ _ _ _ _ (next-profile _ _ _ (start .pre .1 .0 .0) (turn .loop-test .taken))),
+        state-room 8 _ _ _ _ _ _ (turn .before .loop .inv .1) _ (next-profile _ _ _ (start .pre .1 .0 .0) (turn .loop-test .taken)),
       ),
     )
 
@@ -91,8 +85,7 @@ loop-again c =
     let entered = turn .before .before .before .before .before .before .before .before in
     let start = entered .before .before .before .before .before .before .before .before .before .before in (
       search needs,
-      write-next (turn .before .loop .inv .1) _ _
-          (states-next _ _ _ _ _ _ _ (next-profile _ _ _ (start .pre .1 .0 .0) (turn .loop-test .taken)))
+      state-written 8 _ _ _ _ _ _ (turn .before .loop .inv .1) _ (next-profile _ _ _ (start .pre .1 .0 .0) (turn .loop-test .taken))
           (called .leads-on2 .ensures),
     )
 
@@ -109,8 +102,8 @@ returns : tie.Need-returns Inv-loop μ-loop
 returns c =
     let called = c .before .before .before .before .before .before .before .before in
     let start = called .before .before .before .before .before .before .before .before .before .before in
-    both-written (start .pre .1 .1) _ _ (gate-first _ _ _ _ _) (called .leads-on .ensures)
-    (all-written (c .before .loop .inv .1) (states-last _ _ _ _ _ _ (no-profile _ _ _ (start .pre .1 .0 .0) (c .loop-test .left))))
+    states-done 8 _ _ _ _ _ (start .pre .1 .1) (called .leads-on .ensures) _ (c .before .loop .inv .1)
+    (no-profile _ _ _ (start .pre .1 .0 .0) (c .loop-test .left))
 
 pub block-spec : {M : Type 1} → statement M
 block-spec =

@@ -16,8 +16,8 @@ use Rattle.opposite.proofs.arrows.blocks.Tie as tie
 
 abbrev Inv-loop : tie.InvT-loop
 Inv-loop m lent arrows marks shown first from₀ event₀ to₀ n place₀ gate₀ j₀ from event to place gate j =
-    Blocks (machine 8 (asked m lent)) (m .k) arrows marks shown n
-    (blocksFrom (machine 8 (asked m lent)) (m .k) (profilesAt arrows marks) first (keepBy shown (profilesAt arrows marks)))
+    Blocks 8 (machine 8 (asked m lent)) (m .k) arrows marks shown n
+    (blocksFrom 8 (machine 8 (asked m lent)) (m .k) (profilesAt arrows marks) first (keepBy shown (profilesAt arrows marks)))
     (arrowMemory from₀ event₀ to₀) (arrowMemory from event to) place gate j
 
 abbrev μ-loop : tie.MeasureT-loop
@@ -26,7 +26,7 @@ abbrev μ-loop : tie.MeasureT-loop
 loop-holds : tie.Need-loop-holds Inv-loop μ-loop
 loop-holds c =
     let pre = c .before .before .before .before .before .before .before .pre in
-    blocks-begin _ _ _ _ _ _ (pre .1 .0 .2) (pre .1 .1)
+    blocks-begin 8 _ _ _ _ _ _ (pre .1 .0 .2) (pre .1 .1)
 
 shared-slice-read-if1 : tie.Need-shared-slice-read-if1 Inv-loop μ-loop
 shared-slice-read-if1 c = search needs
@@ -49,9 +49,9 @@ block-requires c κs =
     let here = kept .before .before .loop-test .taken in
     let loop = kept .before .before .before in
     let pre = loop .before .before .before .before .before .before .before .before .pre in
-    let fits = block-fits _ _ _ _ _ (pre .1 .0 .0) (pre .1 .0 .1) (loop .loop .inv) here (kept .if1 .taken) in (
+    let fits = block-fits 8 _ _ _ _ _ (pre .1 .0 .0) (pre .1 .0 .1) (loop .loop .inv) here (kept .if1 .taken) in (
       pre .0,
-      ((pre .1 .0 .0, omega (arith, fits)), block-room _ _ _ _ _ (pre .1 .0 .0) (pre .1 .0 .1) (loop .loop .inv) here (kept .if1 .taken)),
+      ((pre .1 .0 .0, omega (arith, fits)), block-room 8 _ _ _ _ _ (pre .1 .0 .0) (pre .1 .0 .1) (loop .loop .inv) here (kept .if1 .taken)),
     )
 
 add-gate : tie.Need-add-gate Inv-loop μ-loop
@@ -60,7 +60,7 @@ add-gate c =
     let here = kept .before .before .loop-test .taken in
     let loop = kept .before .before .before in
     let pre = loop .before .before .before .before .before .before .before .before .pre in
-    omega (arith, block-fits _ _ _ _ _ (pre .1 .0 .0) (pre .1 .0 .1) (loop .loop .inv) here (kept .if1 .taken))
+    omega (arith, block-fits 8 _ _ _ _ _ (pre .1 .0 .0) (pre .1 .0 .1) (loop .loop .inv) here (kept .if1 .taken))
 
 add-gate-2 : tie.Need-add-gate-2 Inv-loop μ-loop
 add-gate-2 c =
@@ -68,7 +68,7 @@ add-gate-2 c =
     let here = kept .before .before .loop-test .taken in
     let loop = kept .before .before .before in
     let pre = loop .before .before .before .before .before .before .before .before .pre in
-    omega (arith, block-fits _ _ _ _ _ (pre .1 .0 .0) (pre .1 .0 .1) (loop .loop .inv) here (kept .if1 .taken))
+    omega (arith, block-fits 8 _ _ _ _ _ (pre .1 .0 .0) (pre .1 .0 .1) (loop .loop .inv) here (kept .if1 .taken))
 
 add-j : tie.Need-add-j Inv-loop μ-loop
 add-j c = search needs
@@ -83,7 +83,7 @@ loop-again c =
     let here = kept .before .before .loop-test .taken in
     let loop = kept .before .before .before in
     let pre = loop .before .before .before .before .before .before .before .before .pre in
-    block-written _ _ _ _ _ (pre .1 .0 .0) (pre .1 .0 .1) (loop .loop .inv) here (kept .if1 .taken)
+    block-written 8 _ _ _ _ _ (pre .1 .0 .0) (pre .1 .0 .1) (loop .loop .inv) here (kept .if1 .taken)
     (called .block .ensures)
 
 add-j-2 : tie.Need-add-j-2 Inv-loop μ-loop
@@ -96,7 +96,7 @@ loop-again-2 : tie.Need-loop-again-2 Inv-loop μ-loop
 loop-again-2 c =
     let loop = c .before .before .before in
     let pre = loop .before .before .before .before .before .before .before .before .pre in
-    block-passed _ _ _ _ _ (pre .1 .0 .0) (pre .1 .0 .1) (loop .loop .inv) (c .before .before .loop-test .taken) (c .if1 .left)
+    block-passed 8 _ _ _ _ _ (pre .1 .0 .0) (pre .1 .0 .1) (loop .loop .inv) (c .before .before .loop-test .taken) (c .if1 .left)
 
 same-length : tie.Need-same-length Inv-loop μ-loop
 same-length c = same-lengths (c .before .loop .inv .writing) .from
@@ -108,7 +108,7 @@ same-length-3 : tie.Need-same-length-3 Inv-loop μ-loop
 same-length-3 c = same-lengths (c .before .loop .inv .writing) .to
 
 returns : tie.Need-returns Inv-loop μ-loop
-returns c = blocks-done _ _ _ _ _ (c .before .loop .inv) (c .loop-test .left)
+returns c = blocks-done 8 _ _ _ _ _ (c .before .loop .inv) (c .loop-test .left)
 
 pub blocks-spec : {M : Type 1} → statement M
 blocks-spec =

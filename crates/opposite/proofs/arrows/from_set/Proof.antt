@@ -8,9 +8,10 @@ use Rattle.model.specs.Asked.{asked}
 use Rattle.opposite.specs.Tables.{profilesAt, keepBy}
 use Rattle.opposite.specs.Memory.{arrowMemory}
 use Rattle.opposite.specs.Drawing.{setOn}
+use Rattle.opposite.proofs.Rows.{profile-within}
 use Rattle.opposite.proofs.Writing.{same-lengths}
 use Rattle.opposite.proofs.Leaving.{Leaving, leaving-begins, leaving-done, next-room, next-within}
-use Rattle.opposite.proofs.Leaving.{profile-within, entries-room, event-left}
+use Rattle.opposite.proofs.Leaving.{entries-room, event-left}
 use Rattle.opposite.proofs.arrows.from_set.Statement.{statement}
 use Rattle.opposite.proofs.arrows.from_set.Tie as tie
 
@@ -18,7 +19,7 @@ abbrev Inv-loop : tie.InvT-loop
 Inv-loop m lent masks arrows marks shown set i from₀ event₀ to₀ n place₀ a₀ from event to place a =
     Leaving (asked m lent) masks (profilesAt arrows marks) (keepBy shown (profilesAt arrows marks)) i set n
     (eachBelow (m .k)
-    (setOn (machine 8 (asked m lent)) (m .k) masks (profilesAt arrows marks) (keepBy shown (profilesAt arrows marks)) i set))
+    (setOn 8 (machine 8 (asked m lent)) (m .k) masks (profilesAt arrows marks) (keepBy shown (profilesAt arrows marks)) i set))
     (arrowMemory from₀ event₀ to₀) (arrowMemory from event to) place a
 
 abbrev μ-loop : tie.MeasureT-loop

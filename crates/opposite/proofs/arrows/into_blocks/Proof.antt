@@ -15,8 +15,8 @@ use Rattle.opposite.proofs.arrows.into_blocks.Tie as tie
 
 abbrev Inv-loop : tie.InvT-loop
 Inv-loop arrows marks shown set i a e first from₀ event₀ to₀ n place₀ gate₀ j₀ from event to place gate j =
-    Entering arrows marks shown set i a e n
-    (intoBlocks (profilesAt arrows marks) set i a e first (keepBy shown (profilesAt arrows marks)))
+    Entering 8 arrows marks shown set i a e n
+    (intoBlocks 8 (profilesAt arrows marks) set i a e first (keepBy shown (profilesAt arrows marks)))
     (arrowMemory from₀ event₀ to₀) (arrowMemory from event to) place gate j
 
 abbrev μ-loop : tie.MeasureT-loop
@@ -25,7 +25,7 @@ abbrev μ-loop : tie.MeasureT-loop
 loop-holds : tie.Need-loop-holds Inv-loop μ-loop
 loop-holds c =
     let start = c .before .before .before .before .before .before in
-    entering-begins _ _ _ _ _ _ _ (start .pre .0 .5) (start .pre .1 .0) (start .pre .1 .1)
+    entering-begins 8 _ _ _ _ _ _ _ (start .pre .0 .5) (start .pre .1 .0) (start .pre .1 .1)
 
 shared-slice-read-if1 : tie.Need-shared-slice-read-if1 Inv-loop μ-loop
 shared-slice-read-if1 c = search needs
@@ -53,7 +53,7 @@ add-put-2 c =
     let if1 = c .before .before .before .before .before .before .before in
     let loop = if1 .before .before .before in
     let pre = loop .before .before .before .before .before .before .before .pre .0 in
-    omega (arith, block-fits _ _ _ (pre .0) (pre .1) _ _ _ _ (loop .loop .inv) (if1 .before .before .loop-test .taken) (if1 .if1 .taken))
+    omega (arith, block-fits 8 _ _ _ (pre .0) (pre .1) _ _ _ _ (loop .loop .inv) (if1 .before .before .loop-test .taken) (if1 .if1 .taken))
 
 put-requires : tie.Need-put-requires Inv-loop μ-loop
 put-requires c κs =
@@ -63,9 +63,9 @@ put-requires c κs =
     let pre = start .pre .0 in
     let w = loop .loop .inv in
     let here = if1 .before .before .loop-test .taken in (
-      entry-room _ _ _ (pre .0) (pre .1) _ _ _ _ w here (if1 .if1 .taken)
+      entry-room 8 _ _ _ (pre .0) (pre .1) _ _ _ _ w here (if1 .if1 .taken)
           (sym (c .before .before .before .before .stays-unmarked .ensures) ∙ c .before .before .before .if2 .taken),
-      omega (arith, block-fits _ _ _ (pre .0) (pre .1) _ _ _ _ w here (if1 .if1 .taken)),
+      omega (arith, block-fits 8 _ _ _ (pre .0) (pre .1) _ _ _ _ w here (if1 .if1 .taken)),
     )
 
 add-gate : tie.Need-add-gate Inv-loop μ-loop
@@ -76,7 +76,7 @@ add-gate-2 c =
     let if1 = c .before .before .before .before .before .before .before .before .before .before .before .before .before .before in
     let loop = if1 .before .before .before in
     let pre = loop .before .before .before .before .before .before .before .pre .0 in
-    omega (arith, block-fits _ _ _ (pre .0) (pre .1) _ _ _ _ (loop .loop .inv) (if1 .before .before .loop-test .taken) (if1 .if1 .taken))
+    omega (arith, block-fits 8 _ _ _ (pre .0) (pre .1) _ _ _ _ (loop .loop .inv) (if1 .before .before .loop-test .taken) (if1 .if1 .taken))
 
 add-j : tie.Need-add-j Inv-loop μ-loop
 add-j c = search needs
@@ -90,7 +90,7 @@ loop-again c =
     let if1 = if2 .before .before .before .before in
     let loop = if1 .before .before .before in
     let pre = loop .before .before .before .before .before .before .before .pre .0 in
-    entered _ _ _ (pre .0) (pre .1) _ _ _ _ (loop .loop .inv) (if1 .before .before .loop-test .taken) (if1 .if1 .taken)
+    entered 8 _ _ _ (pre .0) (pre .1) _ _ _ _ (loop .loop .inv) (if1 .before .before .loop-test .taken) (if1 .if1 .taken)
     (sym (if2 .before .stays-unmarked .ensures) ∙ if2 .if2 .taken) (c .before .before .before .before .before .before .put .ensures)
 
 add-gate-3 : tie.Need-add-gate-3 Inv-loop μ-loop
@@ -101,7 +101,7 @@ add-gate-4 c =
     let if1 = c .before .before .before .before in
     let loop = if1 .before .before .before in
     let pre = loop .before .before .before .before .before .before .before .pre .0 in
-    omega (arith, block-fits _ _ _ (pre .0) (pre .1) _ _ _ _ (loop .loop .inv) (if1 .before .before .loop-test .taken) (if1 .if1 .taken))
+    omega (arith, block-fits 8 _ _ _ (pre .0) (pre .1) _ _ _ _ (loop .loop .inv) (if1 .before .before .loop-test .taken) (if1 .if1 .taken))
 
 add-j-2 : tie.Need-add-j-2 Inv-loop μ-loop
 add-j-2 c = search needs
@@ -114,7 +114,7 @@ loop-again-2 c =
     let if1 = c .before .before .before .before in
     let loop = if1 .before .before .before in
     let pre = loop .before .before .before .before .before .before .before .pre .0 in
-    not-entered _ _ _ (pre .0) (pre .1) _ _ _ _ (loop .loop .inv) (if1 .before .before .loop-test .taken) (if1 .if1 .taken)
+    not-entered 8 _ _ _ (pre .0) (pre .1) _ _ _ _ (loop .loop .inv) (if1 .before .before .loop-test .taken) (if1 .if1 .taken)
     (sym (c .before .stays-unmarked .ensures) ∙ c .if2 .left)
 
 add-j-3 : tie.Need-add-j-3 Inv-loop μ-loop
@@ -127,7 +127,7 @@ loop-again-3 : tie.Need-loop-again-3 Inv-loop μ-loop
 loop-again-3 c =
     let loop = c .before .before .before in
     let pre = loop .before .before .before .before .before .before .before .pre .0 in
-    passed _ _ _ (pre .0) (pre .1) _ _ _ _ (loop .loop .inv) (c .before .before .loop-test .taken) (c .if1 .left)
+    passed 8 _ _ _ (pre .0) (pre .1) _ _ _ _ (loop .loop .inv) (c .before .before .loop-test .taken) (c .if1 .left)
 
 same-length : tie.Need-same-length Inv-loop μ-loop
 same-length c = same-lengths (c .before .loop .inv .writing) .from
@@ -139,7 +139,7 @@ same-length-3 : tie.Need-same-length-3 Inv-loop μ-loop
 same-length-3 c = same-lengths (c .before .loop .inv .writing) .to
 
 returns : tie.Need-returns Inv-loop μ-loop
-returns c = entering-done _ _ _ (c .before .loop .inv) (c .loop-test .left)
+returns c = entering-done 8 _ _ _ (c .before .loop .inv) (c .loop-test .left)
 
 pub into-blocks-spec : {M : Type 1} → statement M
 into-blocks-spec =

@@ -16,9 +16,9 @@ use Rattle.opposite.proofs.arrows.leads_on.Tie as tie
 abbrev Inv-loop : tie.InvT-loop
 Inv-loop m lent arrows marks gate t p x from₀ event₀ to₀ n place₀ a₀ from event to place a =
     (a ≤ m .k)
-    × Writing n (leadsOn (machine 8 (asked m lent)) (m .k) (profilesAt arrows marks) gate (profile t) p (beforeOf x))
+    × Writing n (leadsOn 8 (machine 8 (asked m lent)) (m .k) (profilesAt arrows marks) gate (profile t) p (beforeOf x))
     (arrowMemory from₀ event₀ to₀) (arrowMemory from event to) place
-    (leadsFrom (machine 8 (asked m lent)) (m .k) (profilesAt arrows marks) gate (profile t) p (beforeOf x) a)
+    (leadsFrom 8 (machine 8 (asked m lent)) (m .k) (profilesAt arrows marks) gate (profile t) p (beforeOf x) a)
 
 abbrev μ-loop : tie.MeasureT-loop
 μ-loop m lent arrows marks gate t p x from₀ event₀ to₀ n place₀ a₀ from event to place a = m .k - a
@@ -26,7 +26,7 @@ abbrev μ-loop : tie.MeasureT-loop
 loop-holds : tie.Need-loop-holds Inv-loop μ-loop
 loop-holds c =
     let start = c .before .before .before .before .before .before in
-    (omega arith, left-as (begin (start .pre .1 .1)) (leads-first _ _ _ _ _ _ _))
+    (omega arith, left-as (begin (start .pre .1 .1)) (leads-first 8 _ _ _ _ _ _ _))
 
 mul-of-event : tie.Need-mul-of-event Inv-loop μ-loop
 mul-of-event c = search needs
@@ -47,7 +47,7 @@ onto-requires c κs =
     let start = turn .before .before .before .before .before .before .before .before .before in (
       search needs,
       room-next (turn .before .before .loop .inv .1) _ _
-          (leads-next _ _ _ _ _ _ _ _ (turn .if1 .taken) _
+          (leads-next 8 _ _ _ _ _ _ _ _ (turn .if1 .taken) _
           (read-on _ (start .pre .0) _ (turn .if1 .taken) (start .args .x) (made .before .of-event .ensures) (made .next .ensures))),
     )
 
@@ -65,7 +65,7 @@ loop-again c =
     let start = turn .before .before .before .before .before .before .before .before .before in (
       search needs,
       write-next (turn .before .before .loop .inv .1) _ _
-          (leads-next _ _ _ _ _ _ _ _ (turn .if1 .taken) _
+          (leads-next 8 _ _ _ _ _ _ _ _ (turn .if1 .taken) _
           (read-on _ (start .pre .0) _ (turn .if1 .taken) (start .args .x) (made .before .of-event .ensures) (made .next .ensures)))
           (called .onto .ensures),
     )
@@ -80,7 +80,7 @@ same-length-3 : tie.Need-same-length-3 Inv-loop μ-loop
 same-length-3 c = same-lengths (c .before .before .loop .inv .1) .to
 
 returns : tie.Need-returns Inv-loop μ-loop
-returns c = all-written (c .before .before .loop .inv .1) (leads-last _ _ _ _ _ _ _ _ (c .if1 .left))
+returns c = all-written (c .before .before .loop .inv .1) (leads-last 8 _ _ _ _ _ _ _ _ (c .if1 .left))
 
 pub leads-on-spec : {M : Type 1} → statement M
 leads-on-spec =

@@ -3,8 +3,9 @@ use native.Mathlib.Omega.{arith}
 use mathlib.Core.Path.{refl}
 use mathlib.Core.List.{[]}
 use borrow.Author.Needs.{needs}
+use Rattle.opposite.proofs.Rows.{profile-within}
 use Rattle.opposite.proofs.Writing.{begin, room-next, write-next, all-written}
-use Rattle.opposite.proofs.Leading.{first-room, second-room, both-written, place-most, onto-two, onto-one}
+use Rattle.opposite.proofs.Leading.{first-room, second-room, both-written, onto-two, onto-one}
 use Rattle.opposite.proofs.arrows.onto.Statement.{statement}
 use Rattle.opposite.proofs.arrows.onto.Tie as tie
 
@@ -17,7 +18,7 @@ place-of-profile-requires c κs = search needs
 add-state-2 : tie.Need-add-state-2
 add-state-2 c =
     let start = c .before .before .before .before .before .before in
-    let most = place-most _ _ _ (c .place-of-profile .ensures) (start .pre .0 .0) in
+    let most = profile-within _ _ (start .pre .0 .0) _ (c .place-of-profile .ensures) in
     omega arith
 
 is-same-requires : tie.Need-is-same-requires
@@ -29,7 +30,7 @@ put-requires c κs =
     let looked = tested .before .before in
     let start = looked .before .before .before .before .before .before in (
       first-room (start .pre .1) _ _
-          (onto-two _ _ _ (looked .place-of-profile .ensures) _ _ _ _ (tested .before .is-same .ensures) (tested .if1 .taken)),
+          (onto-two _ _ (looked .place-of-profile .ensures) _ _ _ _ (tested .before .is-same .ensures) (tested .if1 .taken)),
       search needs,
     )
 
@@ -39,9 +40,9 @@ put-requires-2 c κs =
     let tested = first .before .before .before .before in
     let looked = tested .before .before in
     let start = looked .before .before .before .before .before .before in
-    let most = place-most _ _ _ (looked .place-of-profile .ensures) (start .pre .0 .0) in (
+    let most = profile-within _ _ (start .pre .0 .0) _ (looked .place-of-profile .ensures) in (
       second-room (start .pre .1) _ _
-          (onto-two _ _ _ (looked .place-of-profile .ensures) _ _ _ _ (tested .before .is-same .ensures) (tested .if1 .taken))
+          (onto-two _ _ (looked .place-of-profile .ensures) _ _ _ _ (tested .before .is-same .ensures) (tested .if1 .taken))
           (first .put .ensures),
       omega arith,
     )
@@ -63,7 +64,7 @@ returns c =
     let looked = tested .before .before in
     let start = looked .before .before .before .before .before .before in
     both-written (start .pre .1) _ _
-    (onto-two _ _ _ (looked .place-of-profile .ensures) _ _ _ _ (tested .before .is-same .ensures) (tested .if1 .taken))
+    (onto-two _ _ (looked .place-of-profile .ensures) _ _ _ _ (tested .before .is-same .ensures) (tested .if1 .taken))
     (first .put .ensures)
     (second .put2 .ensures)
 
@@ -72,9 +73,9 @@ put-requires-3 c κs =
     let tested = c .before .before .before in
     let looked = tested .before .before in
     let start = looked .before .before .before .before .before .before in
-    let most = place-most _ _ _ (looked .place-of-profile .ensures) (start .pre .0 .0) in (
+    let most = profile-within _ _ (start .pre .0 .0) _ (looked .place-of-profile .ensures) in (
       room-next (begin (start .pre .1)) _ []
-          (onto-one _ _ _ (looked .place-of-profile .ensures) _ _ _ _ (tested .before .is-same .ensures) (tested .if1 .left)),
+          (onto-one _ _ (looked .place-of-profile .ensures) _ _ _ _ (tested .before .is-same .ensures) (tested .if1 .left)),
       omega arith,
     )
 
@@ -95,7 +96,7 @@ returns-2 c =
     let start = looked .before .before .before .before .before .before in
     all-written
     (write-next (begin (start .pre .1)) _ []
-    (onto-one _ _ _ (looked .place-of-profile .ensures) _ _ _ _ (tested .before .is-same .ensures) (tested .if1 .left))
+    (onto-one _ _ (looked .place-of-profile .ensures) _ _ _ _ (tested .before .is-same .ensures) (tested .if1 .left))
     (only .put3 .ensures))
     refl
 

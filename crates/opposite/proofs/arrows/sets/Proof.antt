@@ -16,7 +16,7 @@ use Rattle.opposite.proofs.arrows.sets.Tie as tie
 abbrev Inv-loop : tie.InvT-loop
 Inv-loop m lent masks arrows marks shown from₀ event₀ to₀ n place₀ i₀ from event to place i =
     SetsLeaving (asked m lent) masks (profilesAt arrows marks) (keepBy shown (profilesAt arrows marks)) n
-    (setsFrom (machine 8 (asked m lent)) (m .k) masks (profilesAt arrows marks) (keepBy shown (profilesAt arrows marks)) 0 masks)
+    (setsFrom 8 (machine 8 (asked m lent)) (m .k) masks (profilesAt arrows marks) (keepBy shown (profilesAt arrows marks)) 0 masks)
     (arrowMemory from₀ event₀ to₀) (arrowMemory from event to) place i
 
 abbrev μ-loop : tie.MeasureT-loop

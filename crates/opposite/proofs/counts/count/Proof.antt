@@ -27,20 +27,20 @@ from-sets : {sets k : ℕ} → k ≤ 16 → sets ≤ 256 → sets * k ≤ 4096
 from-sets {k = k} l h = omega (arith, mul-le-mul-right k h)
 
 module _ (M : Machine ℕ) (k : ℕ) (Ps arrows marks : List ℕ) {blocks states lines j : ℕ}
-    (so : Sized M k Ps (profilesAt arrows marks) blocks states lines j) (few : Few Ps arrows marks) (here : j < length arrows) {pairs : ℕ}
+    (so : Sized 8 M k Ps (profilesAt arrows marks) blocks states lines j) (few : Few Ps arrows marks) (here : j < length arrows) {pairs : ℕ}
     (are : pairs ≡ count (λ P. rejectsNonEmpty 8 P (profileAt arrows marks j)) Ps) where
   -- a profile that rejects with no set is passed
-  passed : pairs ≡ 0 → Sized M k Ps (profilesAt arrows marks) blocks states lines (j + 1)
-  passed e = size-passes M k Ps (profilesAt arrows marks) so _ (next-profile arrows marks j (few .0) here) are e
+  passed : pairs ≡ 0 → Sized 8 M k Ps (profilesAt arrows marks) blocks states lines (j + 1)
+  passed e = size-passes 8 M k Ps (profilesAt arrows marks) so _ (next-profile arrows marks j (few .0) here) are e
 
   -- any other adds a block
   module _ (some : pairs ≡ 0 → ⊥) where
     entered : {seconds : ℕ} → seconds ≡ secondCount 8 M k (profilesAt arrows marks) (profileAt arrows marks j)
-        → Sized M k Ps (profilesAt arrows marks) (blocks + 1) (states + (length arrows + 1))
+        → Sized 8 M k Ps (profilesAt arrows marks) (blocks + 1) (states + (length arrows + 1))
         (lines + (k * pairs + (length arrows + 1) * k) + seconds) (j + 1)
     entered e =
         let size = ap (λ n. n + 1) (sym (profiles-length arrows marks (few .0))) in
-        size-grows M k Ps (profilesAt arrows marks) so _ (next-profile arrows marks j (few .0) here) are some size e
+        size-grows 8 M k Ps (profilesAt arrows marks) so _ (next-profile arrows marks j (few .0) here) are some size e
 
     -- and its numbers are small
     small : k ≤ 16
@@ -48,11 +48,11 @@ module _ (M : Machine ℕ) (k : ℕ) (Ps arrows marks : List ℕ) {blocks states
         × (states + (length arrows + 1) ≤ 4196608)
         × (lines + (k * pairs + (length arrows + 1) * k) + secondCount 8 M k (profilesAt arrows marks) (profileAt arrows marks j)
         ≤ 142675968)
-    small l = size-room M k Ps (profilesAt arrows marks) (entered refl) l (few-profiles arrows marks (few .0) (few .1)) (few .2)
+    small l = size-room 8 M k Ps (profilesAt arrows marks) (entered refl) l (few-profiles arrows marks (few .0) (few .1)) (few .2)
 
 abbrev Inv-loop : tie.InvT-loop
 Inv-loop m lent masks arrows marks state-room arrow-room size blocks₀ states₀ lines₀ j₀ blocks states lines j =
-    Sized (machine 8 (asked m lent)) (m .k) masks (profilesAt arrows marks) blocks states lines j
+    Sized 8 (machine 8 (asked m lent)) (m .k) masks (profilesAt arrows marks) blocks states lines j
 
 abbrev μ-loop : tie.MeasureT-loop
 μ-loop m lent masks arrows marks state-room arrow-room size blocks₀ states₀ lines₀ j₀ blocks states lines j = length arrows - j
@@ -66,7 +66,7 @@ mul-lines c =
     omega (arith, from-sets (start .pre .0 .k-most) (start .pre .1 .0 .2))
 
 loop-holds : tie.Need-loop-holds Inv-loop μ-loop
-loop-holds c = size-begins _ _ _ _
+loop-holds c = size-begins 8 _ _ _ _
 
 mul-t16 : tie.Need-mul-t16 Inv-loop μ-loop
 mul-t16 c = search needs
@@ -169,7 +169,7 @@ returns c =
     let start = turn .before .before .before .before .before .before .before in
     let grown = entered _ _ _ _ _ (turn .before .loop .inv) (start .pre .1 .0) (turn .loop-test .taken) (else .before .pairs-of .ensures)
     (else .if1 .left) refl in
-    too-many-states _ _ _ _ grown (c .no-fit .ensures) (c .before .if2 .taken)
+    too-many-states 8 _ _ _ _ grown (c .no-fit .ensures) (c .before .if2 .taken)
 
 no-fit-requires-2 : tie.Need-no-fit-requires-2 Inv-loop μ-loop
 no-fit-requires-2 c κs = search needs
@@ -181,7 +181,7 @@ returns-2 c =
     let start = turn .before .before .before .before .before .before .before in
     let grown = entered _ _ _ _ _ (turn .before .loop .inv) (start .pre .1 .0) (turn .loop-test .taken) (else .before .pairs-of .ensures)
     (else .if1 .left) refl in
-    too-many-lines _ _ _ _ grown (c .no-fit2 .ensures) (c .before .if3 .taken) (omega arith)
+    too-many-lines 8 _ _ _ _ grown (c .no-fit2 .ensures) (c .before .if3 .taken) (omega arith)
 
 seconds-of-requires : tie.Need-seconds-of-requires Inv-loop μ-loop
 seconds-of-requires c κs = search needs
@@ -216,20 +216,20 @@ no-fit-requires-3 : tie.Need-no-fit-requires-3 Inv-loop μ-loop
 no-fit-requires-3 c κs = search needs
 
 returns-3 : tie.Need-returns-3 Inv-loop μ-loop
-returns-3 c = too-many-states _ _ _ _ (c .before .before .before .loop .inv) (c .no-fit3 .ensures) (c .before .if4 .taken)
+returns-3 c = too-many-states 8 _ _ _ _ (c .before .before .before .loop .inv) (c .no-fit3 .ensures) (c .before .if4 .taken)
 
 no-fit-requires-4 : tie.Need-no-fit-requires-4 Inv-loop μ-loop
 no-fit-requires-4 c κs = search needs
 
 returns-4 : tie.Need-returns-4 Inv-loop μ-loop
 returns-4 c =
-    too-many-lines _ _ _ _ (c .before .before .before .before .loop .inv) (c .no-fit4 .ensures) (c .before .if5 .taken) (omega arith)
+    too-many-lines 8 _ _ _ _ (c .before .before .before .before .loop .inv) (c .no-fit4 .ensures) (c .before .if5 .taken) (omega arith)
 
 returns-5 : tie.Need-returns-5 Inv-loop μ-loop
 returns-5 c =
     let end = c .before .before in
     let start = end .before .before .before .before .before .before .before in
-    all-fit _ _ _ _ (end .before .loop .inv) (no-profile _ _ _ (start .pre .1 .0 .0) (end .loop-test .left)) (c .before .if4 .left)
+    all-fit 8 _ _ _ _ (end .before .loop .inv) (no-profile _ _ _ (start .pre .1 .0 .0) (end .loop-test .left)) (c .before .if4 .left)
     (c .if5 .left)
 
 pub count-spec : {M : Type 1} → statement M

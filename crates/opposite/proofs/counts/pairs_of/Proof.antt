@@ -20,7 +20,7 @@ use Rattle.opposite.proofs.counts.pairs_of.Tie as tie
 
 -- b is whether the profile joined with itself was the same
 squared : (t : Profile) {square : Profile} {same b : Bool} → square ≡ join 8 t t → same ≡ sameProfile square t → same ≡ b
-    → isIdempotent t ≡ b
+    → isIdempotent 8 t ≡ b
 unfolding isIdempotent
 squared t joined so e = rw (← joined, ← so) e
 
@@ -39,7 +39,7 @@ is-same-requires c κs = search needs
 returns : tie.Need-returns Inv-loop μ-loop
 returns c =
     let d = c .before .before in
-    count-none _ _ (λ P. rejects-other P _ (squared _ (d .join .ensures) (c .before .is-same .ensures) (not-true _ (c .if1 .taken))))
+    count-none _ _ (λ P. rejects-other 8 P _ (squared _ (d .join .ensures) (c .before .is-same .ensures) (not-true _ (c .if1 .taken))))
 
 loop-holds : tie.Need-loop-holds Inv-loop μ-loop
 loop-holds c = count-begins _ _
@@ -55,7 +55,7 @@ add-pairs c =
     let turn = c .before .before .before in
     let start = turn .before .before in
     let idempotent = squared _ (start .before .before .join .ensures) (start .before .is-same .ensures) (not-false _ (start .if1 .left)) in
-    let rejects = rejects-idempotent _ _ idempotent ∙ sym (c .before .stays-unmarked .ensures) ∙ c .if2 .taken in
+    let rejects = rejects-idempotent 8 _ _ idempotent ∙ sym (c .before .stays-unmarked .ensures) ∙ c .if2 .taken in
     omega (arith, count-room _ _ (turn .before .loop .inv) _ (next-left _ _ 0 (turn .loop-test .taken)) rejects)
 
 add-i : tie.Need-add-i Inv-loop μ-loop
@@ -70,7 +70,7 @@ loop-again c =
     let start = turn .before .before in
     let idempotent = squared _ (start .before .before .join .ensures) (start .before .is-same .ensures) (not-false _ (start .if1 .left)) in
     count-next _ _ (turn .before .loop .inv) _ (next-left _ _ 0 (turn .loop-test .taken))
-    (c .before .stays-unmarked .ensures ∙ sym (rejects-idempotent _ _ idempotent))
+    (c .before .stays-unmarked .ensures ∙ sym (rejects-idempotent 8 _ _ idempotent))
     (⊎-elim (λ w. inl (w .0 .taken, w .1)) (λ w. inr (w .0 .left, w .1)) (c .if2 .came))
 
 returns-2 : tie.Need-returns-2 Inv-loop μ-loop

@@ -16,7 +16,7 @@ use Rattle.opposite.proofs.counts.seconds_of.Tie as tie
 
 abbrev Inv-loop : tie.InvT-loop
 Inv-loop m lent arrows marks t found₀ i₀ found i =
-    Seconds (machine 8 (asked m lent)) (m .k) (profile t) (profilesAt arrows marks) found i
+    Seconds 8 (machine 8 (asked m lent)) (m .k) (profile t) (profilesAt arrows marks) found i
 
 abbrev μ-loop : tie.MeasureT-loop
 μ-loop m lent arrows marks t found₀ i₀ found i = length arrows - i
@@ -25,7 +25,7 @@ returns-of-requires : tie.Need-returns-of-requires Inv-loop μ-loop
 returns-of-requires c κs = search needs
 
 loop-holds : tie.Need-loop-holds Inv-loop μ-loop
-loop-holds c = seconds-begin _ _ _ _ (c .returns-of .ensures)
+loop-holds c = seconds-begin 8 _ _ _ _ (c .returns-of .ensures)
 
 mul-t10 : tie.Need-mul-t10 Inv-loop μ-loop
 mul-t10 c = search needs
@@ -52,7 +52,7 @@ loop-again c =
 add-found : tie.Need-add-found Inv-loop μ-loop
 add-found c =
     let start = c .before .before .before .before .before .before .before .before .before in
-    omega (arith, seconds-fit _ _ _ _ (loop-again c) (start .pre .0 .k-most) (few-profiles _ _ (start .pre .1 .0) (start .pre .1 .1)))
+    omega (arith, seconds-fit 8 _ _ _ _ (loop-again c) (start .pre .0 .k-most) (few-profiles _ _ (start .pre .1 .0) (start .pre .1 .1)))
 
 add-i : tie.Need-add-i Inv-loop μ-loop
 add-i c = search needs

@@ -13,17 +13,17 @@ use Rattle.opposite.proofs.counts.stays_unmarked.Tie as tie
 
 -- which of the tests decides, for the set P and the profile t
 module _ (P : ℕ) (t : Profile) where
-  empty-set : P ≡ 0 → false ≡ staysUnmarked P t
+  empty-set : P ≡ 0 → false ≡ staysUnmarked 8 P t
   unfolding staysUnmarked
   empty-set e = rw (eq-eqb P 0 e)
 
   -- led is the set that the arrows of t lead P to
   module _ (some-state : P ≡ 0 → ⊥) {led : ℕ} (is : led ≡ image 8 P (plain (t .arrows))) where
-    elsewhere : (led ≡ P → ⊥) → false ≡ staysUnmarked P t
+    elsewhere : (led ≡ P → ⊥) → false ≡ staysUnmarked 8 P t
     unfolding staysUnmarked
     elsewhere n = rw (ne-eqb P 0 some-state, ne-eqb (image 8 P t) P (λ e. n (is ∙ led-by-arrows P t ∙ e)))
 
-    round : led ≡ P → {r : Bool} → r ≡ marksRound 8 P t → not r ≡ staysUnmarked P t
+    round : led ≡ P → {r : Bool} → r ≡ marksRound 8 P t → not r ≡ staysUnmarked 8 P t
     unfolding staysUnmarked
     round there e = rw (ne-eqb P 0 some-state, eq-eqb (image 8 P t) P (sym (led-by-arrows P t) ∙ sym is ∙ there), e)
 

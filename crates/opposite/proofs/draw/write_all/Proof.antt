@@ -16,21 +16,21 @@ slice-aggregate-show : tie.Need-slice-aggregate-show
 slice-aggregate-show c =
     let profiles = c .before in
     let pre = profiles .before .before .before .before .before .before .before .before .before .pre in
-    let s = note _ _ _ _ _ (pre .1 .0) (pre .1 .1) (profiles .shown-profiles .ensures) refl in
+    let s = note 8 _ _ _ _ _ (pre .1 .0) (pre .1 .1) (profiles .shown-profiles .ensures) refl in
     sym (length-take-le _ _ (s .within))
 
 slice-aggregate-show-2 : tie.Need-slice-aggregate-show-2
 slice-aggregate-show-2 c =
     let profiles = c .before .before in
     let pre = profiles .before .before .before .before .before .before .before .before .before .pre in
-    let s = note _ _ _ _ _ (pre .1 .0) (pre .1 .1) (profiles .shown-profiles .ensures) refl in
+    let s = note 8 _ _ _ _ _ (pre .1 .0) (pre .1 .1) (profiles .shown-profiles .ensures) refl in
     sym (length-take-le _ _ (omega (arith, s .within, pre .1 .0)))
 
 slice-relend-prefix-show : tie.Need-slice-relend-prefix-show
 slice-relend-prefix-show c =
     let profiles = c .before .before in
     let pre = profiles .before .before .before .before .before .before .before .before .before .pre in
-    let s = note _ _ _ _ _ (pre .1 .0) (pre .1 .1) (profiles .shown-profiles .ensures) refl in
+    let s = note 8 _ _ _ _ _ (pre .1 .0) (pre .1 .1) (profiles .shown-profiles .ensures) refl in
     noted-room s
 
 slice-aggregate-show-3 : tie.Need-slice-aggregate-show-3
@@ -47,7 +47,7 @@ slice-reshare-prefix-sets c =
     let shown = c .before .before in
     let profiles = shown .before .before .before .before in
     let pre = profiles .before .before .before .before .before .before .before .before .before .pre in
-    let s = note _ _ _ _ _ (pre .1 .0) (pre .1 .1) (profiles .shown-profiles .ensures) (shown .show .ensures) in
+    let s = note 8 _ _ _ _ _ (pre .1 .0) (pre .1 .1) (profiles .shown-profiles .ensures) (shown .show .ensures) in
     read-room s
 
 slice-aggregate-sets : tie.Need-slice-aggregate-sets
@@ -58,7 +58,7 @@ sets-requires c κs =
     let shown = c .before .before .before .before .before .before in
     let profiles = shown .before .before .before .before in
     let pre = profiles .before .before .before .before .before .before .before .before .before .pre in
-    let s = note _ _ _ _ _ (pre .1 .0) (pre .1 .1) (profiles .shown-profiles .ensures) (shown .show .ensures) in
+    let s = note 8 _ _ _ _ _ (pre .1 .0) (pre .1 .1) (profiles .shown-profiles .ensures) (shown .show .ensures) in
     (pre .0, ((pre .1 .0, shown-few s, last-state s), (all-idempotent s, sets-room s)))
 
 slice-reshare-prefix-blocks : tie.Need-slice-reshare-prefix-blocks
@@ -66,7 +66,7 @@ slice-reshare-prefix-blocks c =
     let shown = c .before .before .before .before .before .before .before .before .before .before .before .before .before in
     let profiles = shown .before .before .before .before in
     let pre = profiles .before .before .before .before .before .before .before .before .before .pre in
-    let s = note _ _ _ _ _ (pre .1 .0) (pre .1 .1) (profiles .shown-profiles .ensures) (shown .show .ensures) in
+    let s = note 8 _ _ _ _ _ (pre .1 .0) (pre .1 .1) (profiles .shown-profiles .ensures) (shown .show .ensures) in
     read-room s
 
 slice-aggregate-blocks : tie.Need-slice-aggregate-blocks
@@ -78,7 +78,7 @@ blocks-requires c κs =
     let shown = sets-put .before .before .before .before .before .before .before in
     let profiles = shown .before .before .before .before in
     let pre = profiles .before .before .before .before .before .before .before .before .before .pre in
-    let s = note _ _ _ _ _ (pre .1 .0) (pre .1 .1) (profiles .shown-profiles .ensures) (shown .show .ensures) in
+    let s = note 8 _ _ _ _ _ (pre .1 .0) (pre .1 .1) (profiles .shown-profiles .ensures) (shown .show .ensures) in
     (pre .0, ((pre .1 .0, shown-few s, last-state s), blocks-room s (sets-put .sets .ensures)))
 
 write-requires : tie.Need-write-requires
@@ -88,7 +88,7 @@ write-requires c κs =
     let shown = sets-put .before .before .before .before .before .before .before in
     let profiles = shown .before .before .before .before in
     let pre = profiles .before .before .before .before .before .before .before .before .before .pre in
-    let s = note _ _ _ _ _ (pre .1 .0) (pre .1 .1) (profiles .shown-profiles .ensures) (shown .show .ensures) in
+    let s = note 8 _ _ _ _ _ (pre .1 .0) (pre .1 .1) (profiles .shown-profiles .ensures) (shown .show .ensures) in
     flags-room s
 
 same-length : tie.Need-same-length
@@ -110,7 +110,7 @@ returns c =
     let shown = sets-put .before .before .before .before .before .before .before in
     let profiles = shown .before .before .before .before in
     let pre = profiles .before .before .before .before .before .before .before .before .before .pre in
-    let s = note _ _ _ _ _ (pre .1 .0) (pre .1 .1) (profiles .shown-profiles .ensures) (shown .show .ensures) in
+    let s = note 8 _ _ _ _ _ (pre .1 .0) (pre .1 .1) (profiles .shown-profiles .ensures) (shown .show .ensures) in
     drawn s (sets-put .sets .ensures) (blocks-put .blocks2 .ensures) (c .before .before .write .ensures)
 
 pub write-all-spec : {M : Type 1} → statement M

@@ -9,7 +9,7 @@ use Rattle.opposite.proofs.flags.show.Statement.{statement}
 use Rattle.opposite.proofs.flags.show.Tie as tie
 
 abbrev Inv-loop : tie.InvT-loop
-Inv-loop masks arrows marks shown₀ j₀ shown j = ShownLeft masks arrows marks shown₀ shown j
+Inv-loop masks arrows marks shown₀ j₀ shown j = ShownLeft 8 masks arrows marks shown₀ shown j
 
 abbrev μ-loop : tie.MeasureT-loop
 μ-loop masks arrows marks shown₀ j₀ shown j = length arrows - j
@@ -17,7 +17,7 @@ abbrev μ-loop : tie.MeasureT-loop
 loop-holds : tie.Need-loop-holds Inv-loop μ-loop
 loop-holds c =
     let start = c .before .before .before .before in
-    shown-begin (start .args .masks .now) (start .args .arrows .now) (start .args .marks .now) (start .pre .0) _ (start .pre .1)
+    shown-begin 8 (start .args .masks .now) (start .args .arrows .now) (start .args .marks .now) (start .pre .0) _ (start .pre .1)
 
 mul-t7 : tie.Need-mul-t7 Inv-loop μ-loop
 mul-t7 c = search needs
@@ -50,7 +50,7 @@ loop-again : tie.Need-loop-again Inv-loop μ-loop
 loop-again c =
     let turn = c .before .before .before .before in
     let start = turn .before .before .before .before .before .before in
-    lacks-next (start .args .masks .now) (start .args .arrows .now) (start .args .marks .now) (start .pre .0) (turn .before .loop .inv)
+    lacks-next 8 (start .args .masks .now) (start .args .arrows .now) (start .args .marks .now) (start .pre .0) (turn .before .loop .inv)
     (turn .loop-test .taken) (c .before .pairs-of .ensures) (c .if1 .taken)
 
 slice-write-shown-2 : tie.Need-slice-write-shown-2 Inv-loop μ-loop
@@ -69,7 +69,7 @@ loop-again-2 : tie.Need-loop-again-2 Inv-loop μ-loop
 loop-again-2 c =
     let turn = c .before .before .before .before in
     let start = turn .before .before .before .before .before .before in
-    has-next (start .args .masks .now) (start .args .arrows .now) (start .args .marks .now) (start .pre .0) (turn .before .loop .inv)
+    has-next 8 (start .args .masks .now) (start .args .arrows .now) (start .args .marks .now) (start .pre .0) (turn .before .loop .inv)
     (turn .loop-test .taken) (c .before .pairs-of .ensures) (c .if1 .left)
 
 same-length : tie.Need-same-length Inv-loop μ-loop
@@ -78,7 +78,7 @@ same-length c = keeps-length (c .before .loop .inv)
 returns : tie.Need-returns Inv-loop μ-loop
 returns c =
     let start = c .before .before .before .before .before .before in
-    shown-done (start .args .masks .now) (start .args .arrows .now) (start .args .marks .now) (start .pre .0) (c .before .loop .inv)
+    shown-done 8 (start .args .masks .now) (start .args .arrows .now) (start .args .marks .now) (start .pre .0) (c .before .loop .inv)
     (c .loop-test .left) (start .pre .1)
 
 pub show-spec : {M : Type 1} → statement M
