@@ -1,10 +1,12 @@
 //! A second opinion on models, by other means than the library it is compared with.
 
 mod bench;
+mod children;
 mod course;
 mod damage;
 mod editor;
 mod file;
+mod long;
 mod machine;
 mod model;
 mod opposite;
@@ -34,13 +36,18 @@ fn main() {
         ["vectors", folder] => vectors::write(Path::new(folder)),
         ["readings", folder] => readings::write(Path::new(folder)),
         ["program", ref program @ ..] if !program.is_empty() => program::run(program),
+        ["long", seed, folder, ref runner @ ..] => match seed.parse() {
+            Ok(seed) => long::run(seed, folder, runner),
+            Err(_) => usage(),
+        },
         _ => usage(),
     });
 }
 
 fn usage() -> i32 {
     eprintln!(
-        "usage: oracle self-test | editor | vectors FOLDER | readings FOLDER | bench PROGRAM... | program PROGRAM..."
+        "usage: oracle self-test | editor | vectors FOLDER | readings FOLDER | bench PROGRAM... | program PROGRAM... \
+         | long SEED FOLDER RUNNER..."
     );
     2
 }

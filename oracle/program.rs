@@ -1,5 +1,6 @@
 //! Runs the program on model files, whole and damaged, and holds every line it prints against what is found here.
 
+use crate::children::{answer, each};
 use crate::course::letters;
 use crate::damage::{
     beyond, c, changed, cut, largest, lengthened, noise, reordered, scratched, shifted, valid, File,
@@ -9,9 +10,6 @@ use crate::model::{Model, Verdict, MOST_EVENTS};
 use crate::random::Random;
 use crate::tables::Tables;
 use std::collections::BTreeMap;
-use std::io::Write;
-use std::process::{Command, Stdio};
-use std::thread;
 
 const SEED: u64 = 6;
 
@@ -129,33 +127,20 @@ fn batches() -> Vec<(&'static str, Vec<File>)> {
 }
 
 /// What was answered: the third line, or "refused" and its number.
-fn kind(text: &str) -> String {
+pub fn kind(text: &str) -> String {
     let lines: Vec<&str> = text.lines().collect();
     let line = lines.get(2).unwrap_or(&lines[0]);
     line.split(" at ").next().unwrap_or(line).to_string()
 }
 
-/// Each worker takes a part of the files.
-fn compare(program: &[&str], files: &[File]) -> Result<Vec<String>, String> {
-    let workers = thread::available_parallelism().map_or(1, |count| count.get());
-    let part = (files.len() + workers - 1) / workers;
-    thread::scope(|scope| {
-        let work = |files| scope.spawn(move || files_agree(program, files));
-        let running: Vec<_> = files.chunks(part).map(work).collect();
-        let done = running
-            .into_iter()
-            .map(|worker| worker.join().expect("a worker ends"));
-        Ok(done.collect::<Result<Vec<_>, String>>()?.concat())
-    })
-}
-
-fn files_agree(program: &[&str], files: &[File]) -> Result<Vec<String>, String> {
-    files.iter().map(|file| agrees(program, file)).collect()
+/// What was printed for each file, or the first file for which it is wrong.
+pub fn compare(program: &[&str], files: &[File]) -> Result<Vec<String>, String> {
+    each(files, |file| agrees(program, file))
 }
 
 fn agrees(program: &[&str], file: &File) -> Result<String, String> {
     let expected = printed(file);
-    let (success, got) = theirs(program, file).map_err(|fault| fault.to_string())?;
+    let (success, got) = answer(program, file).map_err(|fault| fault.to_string())?;
     if success && got == expected {
         return Ok(expected);
     }
@@ -166,22 +151,5 @@ fn agrees(program: &[&str], file: &File) -> Result<String, String> {
         success,
         got,
         expected
-    ))
-}
-
-fn theirs(program: &[&str], file: &File) -> std::io::Result<(bool, String)> {
-    let mut child = Command::new(program[0])
-        .args(&program[1..])
-        .stdin(Stdio::piped())
-        .stdout(Stdio::piped())
-        .spawn()?;
-    let mut input = child.stdin.take().expect("a pipe");
-    // The program stops reading where it has seen enough.
-    let _ = input.write_all(file);
-    drop(input);
-    let output = child.wait_with_output()?;
-    Ok((
-        output.status.success(),
-        String::from_utf8_lossy(&output.stdout).into_owned(),
     ))
 }

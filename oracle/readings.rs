@@ -8,12 +8,12 @@ use crate::random::Random;
 use std::fs;
 use std::path::Path;
 
-const MOST_ARROWS: usize = 20;
+pub const MOST_ARROWS: usize = 20;
 const SEED: u64 = 66;
 
-struct Case {
-    file: File,
-    lent: usize,
+pub struct Case {
+    pub file: File,
+    pub lent: usize,
 }
 
 pub fn write(folder: &Path) -> i32 {
@@ -49,7 +49,7 @@ fn assert_wide(cases: &[Case]) {
     }
 }
 
-fn stored(case: &Case) -> Vec<u8> {
+pub fn stored(case: &Case) -> Vec<u8> {
     let mut bytes = vec![case.lent as u8];
     bytes.extend((case.file.len() as u16).to_le_bytes());
     bytes.extend(&case.file);
@@ -57,7 +57,7 @@ fn stored(case: &Case) -> Vec<u8> {
 }
 
 /// Number, offset, n, k, both masks, and every arrow number: a dash where it is as it was.
-fn line(case: &Case) -> String {
+pub fn line(case: &Case) -> String {
     let (numbers, arrows) = match read(&case.file, case.lent) {
         Err(fault) => (format!("{} {} 0 0 0 0", fault.number, fault.offset), vec![]),
         Ok(model) => (

@@ -12,17 +12,17 @@ use std::fs;
 use std::path::Path;
 
 /// What the library is handed: n and k may be anything, and more arrow numbers may be lent than k.
-struct Case {
-    n: u64,
-    k: u64,
-    model: Model,
-    asked: Asked,
+pub struct Case {
+    pub n: u64,
+    pub k: u64,
+    pub model: Model,
+    pub asked: Asked,
 }
 
 /// What is asked of a stored model: all runs, one with memory enough, one with slices longer than 16 bits can count, judging courses, or a run
 /// of the opposite.
 #[derive(PartialEq)]
-enum Asked {
+pub enum Asked {
     All,
     Once,
     Long,
@@ -44,7 +44,7 @@ const SLICES: usize = 8;
 const WORDS: usize = 7;
 const WHOLE: [usize; SLICES] = [260, 260, 260, 2_052, 2_052, 2_052, 2_052, 2_308];
 const LONGEST: usize = 65_537;
-const MANY: usize = 600;
+pub const MANY: usize = 600;
 /// What is printed of a course that is judged, beside the numbers of refusals.
 const ACCEPTED: u8 = 100;
 const REJECTED: u8 = 101;
@@ -70,7 +70,7 @@ pub fn write(folder: &Path) -> i32 {
     }
 }
 
-fn stored(case: &Case) -> Vec<u8> {
+pub fn stored(case: &Case) -> Vec<u8> {
     let mut bytes = Vec::new();
     bytes.extend(case.n.to_le_bytes());
     bytes.extend(case.k.to_le_bytes());
@@ -295,7 +295,7 @@ impl Seen {
 }
 
 /// A number of states or events beyond 255 is out of range as 255 is.
-fn refusal(case: &Case) -> u8 {
+pub fn refusal(case: &Case) -> u8 {
     let cut = |x: u64| x.min(255) as usize;
     let mut model = case.model.clone();
     model.n = cut(case.n);
@@ -314,7 +314,7 @@ pub fn mix(sum: u64, x: u64) -> u64 {
     parts.into_iter().fold(sum, mix_part)
 }
 
-fn lines(case: &Case) -> Vec<String> {
+pub fn lines(case: &Case) -> Vec<String> {
     match &case.asked {
         Asked::Courses(courses) => vec![judged_line(case, courses)],
         Asked::Opposite(run) => run.lines(&case.model, refusal(case)),
@@ -406,7 +406,7 @@ fn numbers(runs: &[Seen]) -> String {
         .collect()
 }
 
-fn plain(model: Model) -> Case {
+pub fn plain(model: Model) -> Case {
     Case {
         n: model.n as u64,
         k: model.k as u64,
@@ -736,7 +736,7 @@ pub fn large() -> Vec<Model> {
 }
 
 /// One bit anywhere in the model turned over, or arrow numbers missing, so that many of these are refused.
-fn damaged(random: &mut Random, mut model: Model) -> Case {
+pub fn damaged(random: &mut Random, mut model: Model) -> Case {
     let event = random.below(model.k);
     match random.below(4) {
         0 => model.start ^= 1 << random.below(8),

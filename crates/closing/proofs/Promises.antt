@@ -7,21 +7,17 @@ use lib.ListN.{length, take, length-map}
 use Rattle.laws.specs.Model.{eight}
 use Rattle.laws.specs.Tables.{Entry}
 use Rattle.laws.specs.Profiles.{Profile, values}
-use Rattle.laws.specs.Answers.{SetSlices, ProfileSlices, setRoom, profileRoom, over, setSlices, profileSlices, closingIn}
-use Rattle.laws.proofs.Answered.{closing-within}
+use Rattle.laws.specs.Answers.{SetSlices, ProfileSlices, setRoom, profileRoom, over, Kept, setSlices, profileSlices, closingIn}
+use Rattle.laws.proofs.Answered.{closing-within, full-after-4 as sets-full, full-after-5 as profiles-full, never-4 as sets-enough}
 use Rattle.laws.proofs.Read.{first-numbers}
-use Rattle.laws.proofs.Over.{over-length, over-past}
+use Rattle.laws.proofs.Over.{written}
 use Rattle.model.specs.Asked.{asked}
 use Rattle.model.specs.declared.Model.{Model}
-use Rattle.closing.specs.Memory.{Kept, SetsLent, ProfilesLent}
+use Rattle.closing.specs.Memory.{SetsLent, ProfilesLent}
 use Rattle.closing.specs.Closing.{Closing, due}
 use Rattle.closing.specs.declared.Closed.{Closed}
 use Rattle.closing.proofs.SetTable as of-sets
 use Rattle.closing.proofs.ProfileTable as of-profiles
-
--- writing within a slice leaves the rest of it
-pub written : (xs old : List ℕ) (count : ℕ) → length xs ≡ count → count ≤ length old → Kept count old (over xs old)
-written xs old count e l = record { as-long = over-length xs old (omega arith); past = λ i h. over-past xs old i (omega arith) }
 
 -- an answer is its three numbers
 same-answer : (a b : Closed) → a .number ≡ b .number → a .sets ≡ b .sets → a .profiles ≡ b .profiles → a ≡ b
@@ -55,6 +51,20 @@ module _ {m : Model} {arrows : List ℕ} {S S′ : SetSlices} {T T′ : ProfileS
   pub profiles-within : answer .profiles ≤ profileRoom eight T
   unfolding closingIn
   profiles-within = omega (arith, c .profiles, closing-within eight (asked m arrows) (setRoom eight S) (profileRoom eight T))
+
+  -- with 4 the sets fill their room, and with 5 the profiles fill theirs
+  pub full-after-4 : answer .number ≡ 4 → answer .sets ≡ setRoom eight S
+  unfolding closingIn
+  full-after-4 h = c .sets ∙ sets-full eight (asked m arrows) (setRoom eight S) (profileRoom eight T) (sym (c .number) ∙ h)
+
+  pub full-after-5 : answer .number ≡ 5 → answer .profiles ≡ profileRoom eight T
+  unfolding closingIn
+  full-after-5 h = c .profiles ∙ profiles-full eight (asked m arrows) (setRoom eight S) (profileRoom eight T) (sym (c .number) ∙ h)
+
+  -- there are at most 256 sets: with room for so many 4 does not come
+  pub never-4 : 256 ≤ setRoom eight S → answer .number ≡ 4 → ⊥
+  unfolding closingIn
+  never-4 room h = sets-enough eight (asked m arrows) (setRoom eight S) (profileRoom eight T) room (sym (c .number) ∙ h)
 
   -- so the entries stand in the first places, within the rooms
   pub sets-stand : SetsLent S′ (answer .sets) (setRoom eight S)

@@ -5,6 +5,7 @@ use mathlib.Core.Bool.{false}
 use mathlib.Core.List.{List, map}
 use lib.ListN.{length, getD}
 use Rattle.laws.specs.Bits.{counted}
+use Rattle.laws.specs.Model.{eight}
 use Rattle.laws.specs.Tables.{Entry, Table}
 use Rattle.laws.specs.Profiles.{Profile}
 use Rattle.laws.specs.Answers.{SetSlices, ProfileSlices}
@@ -37,7 +38,7 @@ pub record SetsLent (l : SetSlices) (count room : ℕ) : Type 0 where
   pub masks-within : room ≤ length (l .masks)
   pub from-within : room ≤ length (l .from)
   pub event-within : room ≤ length (l .event)
-  pub limit : room ≤ 256
+  pub limit : room ≤ eight .sets
 
 pub record ProfilesLent (l : ProfileSlices) (count room : ℕ) : Type 0 where
   pub count-within : count ≤ room
@@ -45,7 +46,7 @@ pub record ProfilesLent (l : ProfileSlices) (count room : ℕ) : Type 0 where
   pub marks-within : room ≤ length (l .marks)
   pub from-within : room ≤ length (l .from)
   pub event-within : room ≤ length (l .event)
-  pub limit : room ≤ 2048
+  pub limit : room ≤ eight .profiles
 
 -- the table t stands in the slices, which were old and are now new: its entries and then what stood there before; answer says how many
 -- there are, and whether it is cut
@@ -55,8 +56,3 @@ pub record Fills {Value Slices : Type 0} (write : List (Entry Value) → Slices 
   pub count : answer .count ≡ length (t .entries)
   pub cut : answer .cut ≡ t .cut
   pub within : answer .count ≤ room
-
--- past the first count places everything is as it was, and the slice is as long as it was
-pub record Kept (count : ℕ) (old new : List ℕ) : Type 0 where
-  pub as-long : length new ≡ length old
-  pub past : (i : ℕ) → count ≤ i → getD new i 0 ≡ getD old i 0

@@ -1,18 +1,23 @@
 -- WHAT FOLLOWS FROM THE CONTRACT OF THE VERDICT: no second result meets it, and what is past u and v stays as it was.
 use Prim.Native.Nat.{ℕ, _+_, _≤_}
 use native.Mathlib.Omega.{arith}
-use mathlib.Core.Path.{_≡_, sym, ap, _∙_}
+use mathlib.Core.Path.{_≡_, refl, sym, ap, _∙_}
+use mathlib.Core.Logic.{⊎-elim}
 use mathlib.Core.List.{List}
+use mathlib.Core.Option.{some}
 use lib.ListN.{length, take, length-append}
-use Rattle.laws.specs.Model.{eight}
+use Rattle.laws.specs.Model.{eight, machine}
+use Rattle.laws.specs.Profiles as paper
 use Rattle.laws.specs.Answers.{SetSlices, ProfileSlices, setRoom, profileRoom, closingIn}
-use Rattle.laws.specs.Answers.{closingOf, words, verdictFrom, verdictAnswer, verdictIn, wordMemory}
+use Rattle.laws.specs.Answers.{Kept, closingOf, uAndV, words, verdictFrom, verdictAnswer, verdictIn, wordMemory}
 use Rattle.laws.proofs.Answered.{verdict-within}
+use Rattle.laws.proofs.Answered.{closing-numbers, closing-whole, verdict-given, verdict-exactly-6}
+use Rattle.laws.proofs.Over.{written}
+use Rattle.laws.proofs.Theorems.{verdict-is-short}
 use Rattle.model.specs.Asked.{asked}
 use Rattle.model.specs.declared.Model.{Model}
-use Rattle.closing.specs.Memory.{Kept}
 use Rattle.closing.specs.Closing.{due}
-use Rattle.closing.proofs.Promises.{written, first-k-only, one-closing}
+use Rattle.closing.proofs.Promises.{first-k-only, one-closing}
 use Rattle.cover.specs.Verdicts.{told, tells, given, GivesVerdict, due as verdict-due}
 use Rattle.cover.specs.declared.answer.Answer.{Answer}
 use Rattle.cover.specs.declared.answer.Answer.the-variants.{Covered, Uncovered, Refused}
@@ -43,6 +48,21 @@ told-once a b e =
     go (Refused k s p) (Covered t q) c n g h i j = cc
     go (Refused k s p) (Uncovered t q w x) c n g h i j = cc
     go (Refused k s p) (Refused l t q) c n g h i j = cc
+
+-- of the tables that closing gives with number 0, u has at most 255 letters and v at most 2,048
+short : (m : Model) (arrows : List ℕ) (S : SetSlices) (T : ProfileSlices) → due m arrows S T .number ≡ 0
+    → (x : paper.Verdict) → paper.verdict 8 (due m arrows S T .sets) (due m arrows S T .profiles) ≡ x
+    → (length (uAndV (some x) .0) ≤ 255) × (length (uAndV (some x) .1) ≤ 2048)
+unfolding uAndV closingIn setRoom profileRoom
+short m arrows S T closed paper.covered e = omega arith
+short m arrows S T closed (paper.uncovered u v) e =
+    let c = closing-whole eight (asked m arrows) (setRoom eight S) (profileRoom eight T) closed in
+    omega (
+      arith,
+      verdict-is-short 8 (machine 8 (asked m arrows)) (m .k) _ _ (c .sets-hold) (c .profiles-hold)
+          (omega (arith, c .sets-fit)) (omega (arith, c .profiles-fit)) (omega (arith, c .model .k-most)) u v e,
+      c .profiles-fit,
+    )
 
 module _ {m : Model} {arrows : List ℕ} {S S′ : SetSlices} {T T′ : ProfileSlices} {memory memory′ : List ℕ} where
   module _ {answer : Answer} (j : GivesVerdict m arrows S S′ T T′ memory memory′ answer) where
@@ -79,3 +99,20 @@ module _ {m : Model} {arrows : List ℕ} {S S′ : SetSlices} {T T′ : ProfileS
     pub words-kept : Kept (told answer .u + told answer .v) memory memory′
     unfolding wordMemory
     words-kept = rw (j .word-memory) (written _ memory _ words-long words-within)
+
+    -- u has at most 255 letters and v at most 2,048; after a refusal and with "covered" they have none
+    pub words-short : (told answer .u ≤ 255) × (told answer .v ≤ 2048)
+    unfolding tells verdictIn verdictAnswer closingIn uAndV
+    words-short =
+        rw (j .answered)
+        (⊎-elim (λ e. rw e (omega arith)) (λ e. rw (e .1) (short m arrows S T (e .0) _ refl))
+        (verdict-given 8 (due m arrows S T) (length memory)))
+
+    -- so with room for 2,303 letters 6 does not come
+    pub never-6 : 2303 ≤ length memory → told answer .number ≡ 6 → ⊥
+    unfolding tells verdictIn verdictAnswer closingIn words
+    never-6 room h =
+        let numbers = closing-numbers eight (asked m arrows) (setRoom eight S) (profileRoom eight T) in
+        let is-6 = sym (ap (λ t. t .number) (j .answered)) ∙ h in
+        let (closed, more) = verdict-exactly-6 8 (due m arrows S T) (length memory) numbers .0 is-6 in
+        omega (arith, simp length-append at more, short m arrows S T closed _ refl)

@@ -83,8 +83,8 @@ pub record Stored (S : SetSlices) (T : ProfileSlices) : Type 0 where
   pub set-places : length (S .from) ≡ length (S .masks)
   pub profile-places : length (T .from) ≡ length (T .arrows)
   pub mark-places : length (T .marks) ≡ length (T .arrows)
-  pub few-sets : length (S .masks) ≤ 256
-  pub few-profiles : length (T .arrows) ≤ 2048
+  pub few-sets : length (S .masks) ≤ eight .sets
+  pub few-profiles : length (T .arrows) ≤ eight .profiles
 
 -- all entries of such slices, as closing answers them without refusal
 unfoldable pub wholly : SetSlices → ProfileSlices → ClosingAnswer

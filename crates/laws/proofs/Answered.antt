@@ -1,7 +1,7 @@
 -- What the answers are, case by case, in terms of complete tables: the number, what stands in the tables, the verdict, and the opposite.
 -- The cases are all there are, and no two give the same number but the two of the verdict with number 0. So each number is given exactly
 -- when it is listed; and with number 0 demands 2 and 3 hold.
-use Prim.Native.Nat.{ℕ, zero, suc, _<_, _≤_}
+use Prim.Native.Nat.{ℕ, zero, suc, _*_, _^_, _<_, _≤_}
 use native.Mathlib.Omega.{arith}
 use mathlib.Core.Path.{_≡_, refl, sym, ap, _∙_}
 use mathlib.Core.Bool.{Bool, true, false, _||_}
@@ -9,20 +9,21 @@ use mathlib.Core.Logic.{_⊎_, _↔_, inl, inr, ⊎-elim}
 use mathlib.Core.List.{List, [], _∷_, _++_}
 use mathlib.Core.Option.{none, some}
 use lib.ListN.{length, take, getElem?, length-take}
-use lib.Seq.{take-all}
-use lib.Dec.{ltb}
-use borrow.Author.Tests.{lt-ltb, le-ltb, ltb-true, ltb-false}
+use lib.Seq.{take-all, length-take-le}
+use lib.Dec.{ltb, leb, eqb}
+use borrow.Author.Tests.{lt-ltb, le-ltb, ltb-true, ltb-false, leb-true}
 use Rattle.laws.specs.Words.{Word}
 use Rattle.laws.specs.Model.{Kind, Machine, Model, machine}
-use Rattle.laws.specs.Tables.{Entry, Table, UpTo, noEntry, noEvent}
-use Rattle.laws.specs.Refusals.{firstOf, fault, refuse, outside, maskBeyond, arrowsBeyond, modelChecks, Unrefused}
-use Rattle.laws.specs.Bits.{someOf}
+use Rattle.laws.specs.Tables.{Entry, Table, UpTo, Closes, noEntry, noEvent}
+use Rattle.laws.specs.Refusals.{firstOf, fault, refuse, modelChecks, wordChecks, courseChecks, Unrefused}
+use Rattle.laws.specs.Bits.{someOf, everyOf}
 use Rattle.laws.specs.Profiles.{Profile, Verdict, covered, uncovered, RightVerdict, verdict, values}
-use Rattle.laws.specs.Profiles.{HoldsSets, HoldsProfiles, setTable, profileTable}
+use Rattle.laws.specs.Profiles.{setValue, profileValue, HoldsSets, HoldsProfiles, setTable, profileTable}
 use Rattle.laws.specs.Opposite.{Arrow, sorted, written, blockProfiles, flags, stateCount, arrows, arrowCount, opposite, Opposed}
 use Rattle.laws.specs.Answers.{ClosingAnswer, closingAnswer, closingOf, uAndV, words, verdictFrom, verdictAnswer}
 use Rattle.laws.specs.Answers.{oppositeFrom, oppositeAnswer, CourseAnswer}
 use Rattle.laws.proofs.Booleans.{or-left, or-right, same-test, not-nothing}
+use Rattle.laws.proofs.Checks.{first-number, OneOf}
 use Rattle.laws.proofs.Tables.{up-to}
 use Rattle.laws.proofs.Complete.{set-steps, profile-steps, sets-closing, profiles-closing, closed as tables-closed}
 use Rattle.laws.proofs.Meaning.{machine-within}
@@ -67,6 +68,36 @@ module _ (W : ℕ) (c : ClosingAnswer) (w : ℕ) where
           → verdictFrom W c w ≡ record { number = 0; sets = c .sets; profiles = c .profiles; verdict = some (uncovered u v) }
       unfolding verdictFrom words uAndV
       verdict-uncovered l = rw (closed, e, le-ltb w (length (u ++ v)) l, verdictFrom, e)
+
+  -- as closing's numbers are 0 to 5, 6 comes exactly where it has no refusal and u and v exceed the word memory; and no number is above 6
+  abbrev Six : Type 0
+  Six = ((verdictFrom W c w .number ≡ 6) ↔ ((c .number ≡ 0) × (w < length (words (some x))))) × (verdictFrom W c w .number ≤ 6)
+
+  six : c .number ≤ 5 → Six
+  unfolding verdictFrom
+  six h = go (c .number) (ltb w (length (words (some x)))) refl refl
+    where
+      go : (n : ℕ) (l : Bool) → c .number ≡ n → ltb w (length (words (some x))) ≡ l → Six
+      go (suc n) l e f = rw (e, verdictFrom) (omega arith)
+      go zero true e f = rw (e, f, verdictFrom) (omega (arith, ltb-true w (length (words (some x))) f))
+      go zero false e f = rw (e, f, verdictFrom) (omega (arith, ltb-false w (length (words (some x))) f))
+
+  pub verdict-exactly-6 : c .number ≤ 5 → (verdictFrom W c w .number ≡ 6) ↔ ((c .number ≡ 0) × (w < length (words (some x))))
+  verdict-exactly-6 h = six h .0
+
+  pub verdict-most : c .number ≤ 5 → verdictFrom W c w .number ≤ 6
+  verdict-most h = six h .1
+
+  -- what is given is no verdict, or that of the tables where closing has no refusal
+  pub verdict-given : (verdictFrom W c w .verdict ≡ none) ⊎ ((c .number ≡ 0) × (verdictFrom W c w .verdict ≡ some x))
+  unfolding verdictFrom
+  verdict-given = go (c .number) (ltb w (length (words (some x)))) refl refl
+    where
+      go : (n : ℕ) (l : Bool) → c .number ≡ n → ltb w (length (words (some x))) ≡ l
+          → (verdictFrom W c w .verdict ≡ none) ⊎ ((c .number ≡ 0) × (verdictFrom W c w .verdict ≡ some x))
+      go (suc n) l e f = inl (rw (e, verdictFrom))
+      go zero true e f = inl (rw (e, f, verdictFrom))
+      go zero false e f = inr (e, rw (e, f, verdictFrom))
 
   -- whatever the number, no more is written than there is room
   pub verdict-within : length (words (verdictFrom W c w .verdict)) ≤ w
@@ -152,19 +183,11 @@ module _ (K : Kind) (m : Model) (a b : ℕ) where
           rw (f, p, q, closingOf) (closing-0 f sets hs (ltb-false a (length sets) p) profiles hp (ltb-false b (length profiles) q))
 
   -- its numbers are 0 to 5
-  model-numbers : firstOf (modelChecks K m) .number ≤ 3
-  unfolding modelChecks firstOf refuse fault
-  model-numbers =
-      go (outside (K .states) (m .n) || outside (K .events) (m .k)) (ltb (length (m .arrows)) (m .k))
-      (maskBeyond (m .n) (m .start) || maskBeyond (m .n) (m .home) || someOf (arrowsBeyond (K .states) (m .n)) (take (m .k) (m .arrows)))
-    where
-      go : (x y z : Bool) → firstOf (refuse 1 x ∷ refuse 2 y ∷ refuse 3 z ∷ []) .number ≤ 3
-      go true y z = omega arith
-      go false true z = omega arith
-      go false false true = omega arith
-      go false false false = omega arith
+  pub model-numbers : firstOf (modelChecks K m) .number ≤ 3
+  unfolding modelChecks refuse fault everyOf
+  model-numbers = leb-true _ 3 (first-number (λ n. leb n 3) refl (modelChecks K m) refl)
 
-  closing-numbers : C .number ≤ 5
+  pub closing-numbers : C .number ≤ 5
   unfolding closingAnswer
   closing-numbers = go (firstOf (modelChecks K m) .number) (S .cut) (T .cut) refl refl refl
     where
@@ -173,6 +196,60 @@ module _ (K : Kind) (m : Model) (a b : ℕ) where
       go zero true t f p q = rw (f, p, closingAnswer) (omega arith)
       go zero false true f p q = rw (f, p, q, closingAnswer) (omega arith)
       go zero false false f p q = rw (f, p, q, closingAnswer) (omega arith)
+
+  -- so 4 comes exactly where the model is not refused and there are more sets than room, and 5 exactly where the sets fit and there are
+  -- more profiles than room, whichever lists hold all sets and all profiles
+  module _ (sets : List (Entry ℕ)) (hs : HoldsSets W M (m .k) sets) (profiles : List (Entry Profile))
+      (hp : HoldsProfiles W M (m .k) profiles) where
+    abbrev Exactly : Type 0
+    Exactly =
+        ((C .number ≡ 4) ↔ ((firstOf (modelChecks K m) .number ≡ 0) × (a < length sets)))
+        × ((C .number ≡ 5) ↔ ((firstOf (modelChecks K m) .number ≡ 0) × (length sets ≤ a) × (b < length profiles)))
+
+    exactly : Exactly
+    exactly = go (firstOf (modelChecks K m) .number) (ltb a (length sets)) (ltb b (length profiles)) refl refl refl
+      where
+        go : (n : ℕ) (s t : Bool) → firstOf (modelChecks K m) .number ≡ n → ltb a (length sets) ≡ s → ltb b (length profiles) ≡ t → Exactly
+        go (suc n) s t f p q = omega (arith, model-numbers, ap (λ c. c .number) (closing-refused n f))
+        go zero true t f p q =
+            let more = ltb-true a (length sets) p in
+            omega (arith, ap (λ c. c .number) (closing-4 f sets hs more))
+        go zero false true f p q =
+            let fit = ltb-false a (length sets) p in
+            let more = ltb-true b (length profiles) q in
+            omega (arith, ap (λ c. c .number) (closing-5 f sets hs fit profiles hp more))
+        go zero false false f p q =
+            let fit = ltb-false a (length sets) p in
+            let all = ltb-false b (length profiles) q in
+            omega (arith, ap (λ c. c .number) (closing-0 f sets hs fit profiles hp all))
+
+    pub closing-exactly-4 : (C .number ≡ 4) ↔ ((firstOf (modelChecks K m) .number ≡ 0) × (a < length sets))
+    closing-exactly-4 = exactly .0
+
+    pub closing-exactly-5 : (C .number ≡ 5) ↔ ((firstOf (modelChecks K m) .number ≡ 0) × (length sets ≤ a) × (b < length profiles))
+    closing-exactly-5 = exactly .1
+
+  -- with 4 as many sets are entered as there is room, and with 5 as many profiles
+  abbrev all-sets : Closes (setValue W M) (m .k) (2 ^ W)
+  all-sets = sets-closing W M (m .k)
+
+  abbrev all-profiles : Closes (profileValue W M) (m .k) (2 ^ (W * W) * 2 ^ (W * W))
+  all-profiles = profiles-closing W M (m .k)
+
+  pub full-after-4 : C .number ≡ 4 → length (C .sets) ≡ a
+  full-after-4 h =
+      let (passes, more) = closing-exactly-4 _ (all-sets .holds) _ (all-profiles .holds) .0 h in
+      ap (λ c. length (c .sets)) (closing-4 passes _ (all-sets .holds) more) ∙ length-take-le a (all-sets .complete) (omega arith)
+
+  pub full-after-5 : C .number ≡ 5 → length (C .profiles) ≡ b
+  full-after-5 h =
+      let (passes, fit, more) = closing-exactly-5 _ (all-sets .holds) _ (all-profiles .holds) .0 h in
+      ap (λ c. length (c .profiles)) (closing-5 passes _ (all-sets .holds) fit _ (all-profiles .holds) more)
+      ∙ length-take-le b (all-profiles .complete) (omega arith)
+
+  -- with room for 2^W sets 4 does not come
+  pub never-4 : 2 ^ W ≤ a → C .number ≡ 4 → ⊥
+  never-4 room h = omega (arith, closing-exactly-4 _ (all-sets .holds) _ (all-profiles .holds) .0 h, all-sets .at-most)
 
   -- whatever the number, no more is entered than there is room
   sets-fit : length (S .entries) ≤ a
@@ -224,6 +301,11 @@ module _ (K : Kind) (m : Model) (a b : ℕ) where
   module _ (w : ℕ) where
     abbrev y : Verdict
     y = verdict W (C .sets) (C .profiles)
+
+    -- the verdict's numbers are 0 to 6
+    pub verdict-gives : verdictAnswer K m a b w .number ≤ 6
+    unfolding verdictAnswer
+    verdict-gives = verdict-most W C w closing-numbers
 
     -- DEMAND 2: with number 0 the verdict is that of the tables, and it is right
     pub verdict-answers : a ≤ suc noEntry → b ≤ suc noEntry → K .events ≤ noEvent → verdictAnswer K m a b w .number ≡ 0
@@ -287,6 +369,17 @@ module _ (K : Kind) (m : Model) (a b : ℕ) where
           }
       unfolding oppositeAnswer oppositeFrom
       opposite-0 l k = rw (closed, le-ltb s states l, le-ltb r lines k, oppositeFrom)
+
+    -- its numbers are 0 to 5 and 7
+    pub opposite-gives : (oppositeAnswer K m a b s r .number ≤ 7) × (oppositeAnswer K m a b s r .number ≡ 6 → ⊥)
+    unfolding oppositeAnswer oppositeFrom
+    opposite-gives = go (C .number) (ltb s states || ltb r lines) refl refl
+      where
+        go : (n : ℕ) (l : Bool) → C .number ≡ n → (ltb s states || ltb r lines) ≡ l
+            → (oppositeAnswer K m a b s r .number ≤ 7) × (oppositeAnswer K m a b s r .number ≡ 6 → ⊥)
+        go (suc n) l e f = rw (e, oppositeFrom) (omega (arith, closing-numbers))
+        go zero true e f = rw (e, f, oppositeFrom) (omega arith)
+        go zero false e f = rw (e, f, oppositeFrom) (omega arith)
 
     -- so 7 comes exactly where closing has no refusal and the counted states or arrows exceed their room
     pub opposite-exactly-7 : (oppositeAnswer K m a b s r .number ≡ 7) ↔ ((C .number ≡ 0) × ((s < states) ⊎ (r < lines)))
@@ -373,7 +466,12 @@ module _ (K : Kind) (m : Model) (a b : ℕ) where
             let within = machine-within W m (c .model .n-most) in
             rw (e, f, oppositeFrom) (opposed W M (m .k) (C .sets) (C .profiles) (c .sets-hold) (c .profiles-hold) within)
 
--- ONE COURSE has one judgement
+-- ONE COURSE gets 0 or one of document 01's 1, 2, 3, 10 and 9
+pub course-gives : (K : Kind) (m : Model) (u v : Word) → OneOf (0 ∷ 1 ∷ 2 ∷ 3 ∷ 10 ∷ 9 ∷ []) (firstOf (courseChecks K m u v) .number)
+unfolding courseChecks modelChecks wordChecks refuse fault everyOf someOf
+course-gives K m u v = first-number (λ n. someOf (eqb n) (0 ∷ 1 ∷ 2 ∷ 3 ∷ 10 ∷ 9 ∷ [])) refl (courseChecks K m u v) refl
+
+-- it has one judgement
 pub one-judged : {K : Kind} {m : Model} {u v : Word} {n l : ℕ} {c d : Bool} → CourseAnswer K m u v n c → CourseAnswer K m u v l d
     → (n ≡ l) × (c ≡ d)
 one-judged {K = K} {m = m} {u = u} {v = v} {n = n} {l = l} p q = (same, same-test (yes p q same) (yes q p (sym same)))

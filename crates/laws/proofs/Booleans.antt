@@ -81,6 +81,10 @@ unfolding someBelow
 some-same zero f g h = refl
 some-same (suc n) f g h = ap₂ _||_ (some-same n f g (λ i l. h i (omega arith))) (h n (omega arith))
 
+-- what has to be a given value is one only
+pub one-value : {A : Type 0} {r s x : A} → r ≡ x → s ≡ x → r ≡ s
+one-value e f = e ∙ sym f
+
 -- what is there is one thing, and is not nothing
 pub inside : {A : Type 0} {x y : A} → some x ≡ some y → x ≡ y
 inside e = cc

@@ -7,11 +7,11 @@ use mathlib.Core.Path.{_≡_, refl, sym, ap, ap₂, _∙_, subst}
 use mathlib.Core.Bool.{Bool, true, false, not}
 use mathlib.Core.Logic.{⊎-elim}
 use mathlib.Core.List.{List, [], _∷_, _++_, append-assoc, append-nil}
-use lib.Dec.{ltb}
+use lib.Dec.{ltb, eqb}
 use borrow.Author.Tests.{not-false, ltb-true}
-use Rattle.laws.specs.Bits.{everyOf, counted, gather, eachBelow}
+use Rattle.laws.specs.Bits.{someOf, everyOf, counted, gather, eachBelow}
 use Rattle.laws.specs.Refusals.{Check, firstOf, Passed, Stopped, fault}
-use Rattle.laws.proofs.Booleans.{less, either, and-left, and-right}
+use Rattle.laws.proofs.Booleans.{less, either, both, and-left, and-right}
 
 -- what is listed for each number below k + 1 is what is listed for each below k, and then for k
 pub each-further : {A : Type 0} (k : ℕ) (f : ℕ → List A) → eachBelow (suc k) f ≡ eachBelow k f ++ f k
@@ -94,6 +94,34 @@ second-decides (x ∷ xs) ys h z =
     let passes = passed-check number (x .offset) e in
     passes (xs ++ ys) ∙ second-decides xs ys (and-right (ltb 0 number) _ h) (ap (λ f. f .number) (sym (passes xs)) ∙ z))
     (either (x .applies))
+
+-- what holds of 0 and of the number of every check of a list holds of the number that they come to
+module _ (f : ℕ → Bool) where
+  abbrev Has : List Check → Type 0
+  Has checks = everyOf (λ c. f (c .number)) checks ≡ true
+
+  pub first-number : f 0 ≡ true → (checks : List Check) → Has checks → f (firstOf checks .number) ≡ true
+  unfolding firstOf everyOf
+  first-number z [] h = z
+  first-number z (c ∷ cs) h =
+      let own = and-left (f (c .number)) _ h in
+      ⊎-elim (λ e. rw e own) (λ e. rw e (first-number z cs (and-right (f (c .number)) _ h))) (either (c .applies))
+
+  -- lists of such checks one behind the other are such a list
+  pub has-both : (xs ys : List Check) → Has xs → Has ys → Has (xs ++ ys)
+  unfolding everyOf
+  has-both [] ys h g = g
+  has-both (x ∷ xs) ys h g = both (and-left (f (x .number)) _ h) (has-both xs ys (and-right (f (x .number)) _ h) g)
+
+  pub has-each : (k : ℕ) (checks : ℕ → List Check) → ((a : ℕ) → Has (checks a)) → Has (eachBelow k checks)
+  unfolding everyOf eachBelow gather counted
+  has-each zero checks h = refl
+  has-each (suc k) checks h =
+      subst Has (sym (each-further k checks)) (has-both (eachBelow k checks) (checks k) (has-each k checks h) (h k))
+
+-- n is one of the listed numbers
+abbrev pub OneOf : List ℕ → ℕ → Type 0
+OneOf numbers n = someOf (eqb n) numbers ≡ true
 
 -- where the list and what follows come to number 0, none of the list applies, as P says, and what follows comes to number 0
 abbrev pub Shows : List Check → Type 0 → Type 0

@@ -4,7 +4,7 @@ use Prim.Native.Nat.{ℕ, zero, suc, _+_, _^_, _<_, _≤_}
 use native.Mathlib.Omega.{arith}
 use native.Mathlib.Nat.{add-zero, add-suc, suc-add, pow-le-pow-right}
 use mathlib.Core.Path.{_≡_, refl, sym, ap, ap₂, _∙_, subst}
-use mathlib.Core.Bool.{true, false, _&&_}
+use mathlib.Core.Bool.{Bool, true, false, _&&_}
 use mathlib.Core.Logic.{⊎-elim}
 use mathlib.Core.List.{List, [], _∷_, _++_, map, append-assoc}
 use lib.ListN.{length, getD, take, drop, length-map, length-drop, take-append-drop, drop-of-length-le, List·getD-eq-default}
@@ -12,17 +12,17 @@ use lib.Seq.{drop-cons, drop-drop, getD-take, length-take-le, ext-getD}
 use lib.Pow.{pow-pos}
 use lib.Dec.{eqb, ltb, leb}
 use borrow.Author.Tests.{ltb-true, ltb-false, leb-true, eqb-true}
-use Rattle.laws.specs.Bits.{bit, cell, packedRow, fromRows, counted, gather, eachBelow}
+use Rattle.laws.specs.Bits.{bit, cell, packedRow, fromRows, counted, someOf, everyOf, gather, eachBelow}
 use Rattle.laws.specs.Model.{eight, Model}
-use Rattle.laws.specs.Refusals.{Fault, firstOf, maskBeyond, Unrefused}
+use Rattle.laws.specs.Refusals.{Fault, firstOf, fault, maskBeyond, Unrefused}
 use Rattle.laws.specs.File.{head, field, endField, eventField, fileOf, eventOffset, byte, standAt, formed, value, masks}
-use Rattle.laws.specs.File.{fileChecks, modelRead, found, reading}
+use Rattle.laws.specs.File.{numberChecks, maskChecks, eventChecks, endChecks, frontChecks, fileChecks, modelRead, found, reading}
 use Rattle.laws.proofs.Booleans.{never, either, and-left, and-right}
 use Rattle.laws.proofs.Members.{length-counted, at-counted}
 use Rattle.laws.proofs.Packing.{no-bit, bit-inside, row-of-rows, cell-of-rows}
 use Rattle.laws.proofs.Unrefused.{none-meets, in-range, mask-below, mask-inside}
 use Rattle.laws.proofs.Read.{withArrows, event-same}
-use Rattle.laws.proofs.Checks.{each-further, each-same}
+use Rattle.laws.proofs.Checks.{each-further, each-same, first-number, has-both, has-each, OneOf}
 use Rattle.laws.proofs.Faultless.{RightEvent, Faultless, faultless}
 
 module _ (bytes : List ℕ) where
@@ -204,6 +204,18 @@ module _ (bytes : List ℕ) (room : ℕ) where
   pub read-fault : reading bytes room .fault ≡ firstOf (fileChecks bytes (value bytes 0) (value bytes 4) room)
   unfolding reading
   read-fault = found-fault first inFile
+
+  -- its number is 0, 1, 2, 3 or 8
+  pub reading-gives : OneOf (0 ∷ 1 ∷ 2 ∷ 3 ∷ 8 ∷ []) (reading bytes room .fault .number)
+  unfolding fileChecks frontChecks numberChecks maskChecks eventChecks endChecks fault everyOf someOf
+  reading-gives =
+      let listed : ℕ → Bool = λ n. someOf (eqb n) (0 ∷ 1 ∷ 2 ∷ 3 ∷ 8 ∷ []) in
+      let n = value bytes 0 in
+      let k = value bytes 4 in
+      rw read-fault
+      (first-number listed refl (fileChecks bytes n k room)
+      (has-both listed (eachBelow k (eventChecks bytes n)) (endChecks bytes (eventOffset n k))
+      (has-each listed k (eventChecks bytes n) (λ a. refl)) refl))
 
   -- with number 0 the file has no fault, and the model in it is read
   module _ (h : reading bytes room .fault .number ≡ 0) where

@@ -2,18 +2,19 @@
 -- Assumes nothing.
 use Prim.Native.Nat.{ℕ}
 use mathlib.Core.Path.{_≡_, refl}
-use mathlib.Core.Bool.{Bool, true, false}
+use mathlib.Core.Bool.{Bool, true, false, cond}
 use mathlib.Core.List.{List, [], _∷_, _++_, map}
 use mathlib.Core.Option.{Option, none, some}
 use lib.ListN.{length}
-use Rattle.laws.specs.Bits.{counted, keep, eachBelow}
+use Rattle.laws.specs.Bits.{counted, keep, gather, eachBelow}
+use Rattle.laws.specs.Words.{Word}
 use Rattle.laws.specs.Model.{Model, eight, machine}
-use Rattle.laws.specs.Tables.{Entry, noEntry, noEvent}
-use Rattle.laws.specs.Profiles.{Profile, values, setValue, profileOf}
+use Rattle.laws.specs.Tables.{Entry, noEntry, noEvent, wordOf}
+use Rattle.laws.specs.Profiles.{Profile, values, isRejecting, setValue, profileOf}
 use Rattle.laws.specs.Opposite.{Arrow, arrow, sorted, written, opposite}
 use Rattle.laws.specs.File.{fileOf, reading}
 use Rattle.laws.specs.Answers.{closingAnswer, OppositeAnswer, oppositeAnswer}
-use Rattle.laws.specs.HandWorked.{C, D, E, H, Shuttle, Row, rowOf, rows, ownRows}
+use Rattle.laws.specs.HandWorked.{mask, C, D, E, H, Shuttle, Row, rowOf, rows, ownRows}
 use Rattle.laws.proofs.Computed.{computed}
 
 -- both hold
@@ -69,6 +70,18 @@ e-tables : closingAnswer eight E 256 2048 ≡ record {
 }
 unfolding computed set profile
 e-tables = refl
+
+-- the rejecting pairs of a model: the set, and the profile's least word
+rejecting : Model → List (ℕ × Word)
+rejecting m =
+    let sets = closingAnswer eight m 256 2048 .sets in
+    let profiles = closingAnswer eight m 256 2048 .profiles in
+    gather (λ i P. gather (λ j t. cond (isRejecting 8 P t) ((P, wordOf profiles j) ∷ []) []) 0 (values profiles)) 0 (values sets)
+
+-- H has two: set {0} with the profile of 0, and set {0,1} with that of 0 1
+h-rejecting : rejecting H ≡ (mask (0 ∷ []), 0 ∷ []) ∷ (mask (0 ∷ 1 ∷ []), 0 ∷ 1 ∷ []) ∷ []
+unfolding computed rejecting
+h-rejecting = refl
 
 -- the opposites of C, D and H, with the tables they are made from
 opposing : Model → OppositeAnswer

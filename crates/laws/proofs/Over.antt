@@ -7,7 +7,7 @@ use mathlib.Core.List.{List, [], _∷_, _++_}
 use lib.ListN.{length, getD, take, drop, set, length-append, length-drop, take-append-drop, List·getD-append}
 use lib.Seq.{drop-cons, drop-drop, drop-append-add, set-append-seam, append-snoc, getD-append-add, getD-drop, getD-take}
 use lib.Seq.{take-suc, take-all, take-at, length-take-le, ext-getD}
-use Rattle.laws.specs.Answers.{over}
+use Rattle.laws.specs.Answers.{over, Kept}
 use Rattle.laws.proofs.Places.{length-one-more}
 
 -- where nothing was written the slice is as it was
@@ -49,6 +49,10 @@ module _ (xs old : List ℕ) where
   pub over-set : (x : ℕ) → length xs < length old → set (over xs old) (length xs) x ≡ over (xs ++ (x ∷ [])) old
   unfolding over
   over-set x h = rw (length-one-more, drop-cons old (length xs) 0, set-append-seam, append-snoc)
+
+-- writing within a slice leaves the rest of it
+pub written : (xs old : List ℕ) (count : ℕ) → length xs ≡ count → count ≤ length old → Kept count old (over xs old)
+written xs old count e l = record { as-long = over-length xs old (omega arith); past = λ i h. over-past xs old i (omega arith) }
 
 -- writing again, and no less, is writing at once
 pub over-again : (xs ys old : List ℕ) → length xs ≤ length ys → over ys (over xs old) ≡ over ys old

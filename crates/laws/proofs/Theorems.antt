@@ -8,23 +8,24 @@ use mathlib.Core.Bool.{Bool, true, false}
 use mathlib.Core.Logic.{_↔_, _⊎_, ⊎-elim}
 use mathlib.Core.List.{List, [], _++_}
 use mathlib.Core.Option.{some}
-use lib.ListN.{length, getElem?, take}
-use Rattle.laws.specs.Bits.{times}
+use lib.ListN.{length, getD, getElem?, take}
+use Rattle.laws.specs.Bits.{fromBits, times}
 use Rattle.laws.specs.Words.{Word, power, empty}
 use Rattle.laws.specs.Model.{Machine, Path, homed, Accepted, Course, Kind, eight, Model, machine, Within}
 use Rattle.laws.specs.Tables.{WordValue, Entry, noEntry, noEvent, Holds, Table, UpTo, Steps, Codes, Closes, wordOf}
-use Rattle.laws.specs.Profiles.{Profile, values, marked, join, image, setOf, SetMeans, profileOf}
+use Rattle.laws.specs.Profiles.{Profile, values, marked, join, image, startSet, setOf, SetMeans, eventProfile, profileOf}
 use Rattle.laws.specs.Profiles.{ProfileMeans, setValue, profileValue, HoldsSets, HoldsProfiles}
 use Rattle.laws.specs.Profiles.{isRejecting, FirstPair, Verdict, covered, uncovered, RightVerdict, verdict}
 use Rattle.laws.specs.Repeats.{Repeats, acceptedFrom}
 use Rattle.laws.specs.Opposite.{Arrow, sorted, blockProfiles, flags, stateCount, arrows, arrowCount, opposite, Opposed}
-use Rattle.laws.specs.Refusals.{Unrefused}
+use Rattle.laws.specs.Refusals.{firstOf, modelChecks, Unrefused}
 use Rattle.laws.specs.File.{fileOf, reading}
 use Rattle.laws.specs.Answers.{CourseAnswer}
 use Rattle.laws.specs.Program.{printed}
 use Rattle.laws.proofs.Places.{place-below}
 use Rattle.laws.proofs.Members.{member}
 use Rattle.laws.proofs.Joins.{join-assoc}
+use Rattle.laws.proofs.Unrefused.{unrefused, as-asked, start-mask, home-mask, event-arrows}
 use Rattle.laws.proofs.Meaning.{machine-within, set-means, profile-means, marked-round, round-marked, has-profile, profile-has}
 use Rattle.laws.proofs.Meaning.{profile-of-two, set-of-two, one-set, one-profile}
 use Rattle.laws.proofs.Idempotent.{idempotent}
@@ -49,6 +50,21 @@ use Rattle.laws.proofs.Reports.{printed-beginning, printed-short}
 -- The theorems speak of machines, where needed with states below W. Every model with at most W states is one
 pub every-model : (W : ℕ) (m : Model) → m .n ≤ W → Within W (machine W m)
 every-model = machine-within
+
+-- A model is not refused with 1, 2 or 3 exactly if it is as asked, in terms of its bits
+pub models-are-asked : (K : Kind) (m : Model) → (firstOf (modelChecks K m) .number ≡ 0) ↔ Unrefused K m
+models-are-asked K m = (unrefused K m, as-asked K m)
+
+-- and its machine then has what was lent: the start mask, the home mask, and the arrow number of each event
+module _ (K : Kind) (m : Model) (asked : Unrefused K m) where
+  pub start-is-lent : startSet (K .states) (machine (K .states) m) ≡ m .start
+  start-is-lent = start-mask K m asked
+
+  pub home-is-lent : fromBits (K .states) (machine (K .states) m .home) ≡ m .home
+  home-is-lent = home-mask K m asked
+
+  pub arrows-are-lent : (a : ℕ) → a < m .k → eventProfile (K .states) (machine (K .states) m) a .arrows ≡ getD (m .arrows) a 0
+  arrows-are-lent = event-arrows K m asked
 
 -- 1. SETS AND PROFILES MEAN PATHS
 module _ (W : ℕ) (M : Machine ℕ) (within : Within W M) where

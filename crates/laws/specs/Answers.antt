@@ -1,11 +1,11 @@
 -- Document 01, "Numbers given back": what each call answers, and what every lent slice holds afterwards. An answer names the entries
 -- that now stand in the lent slices: a count is how many there are, and past it everything is as it was.
-use Prim.Native.Nat.{ℕ, zero, suc, min}
+use Prim.Native.Nat.{ℕ, zero, suc, min, _≤_}
 use mathlib.Core.Path.{_≡_}
 use mathlib.Core.Bool.{Bool, true, false, _||_}
 use mathlib.Core.List.{List, [], _++_, map}
 use mathlib.Core.Option.{Option, none, some}
-use lib.ListN.{length, take, drop}
+use lib.ListN.{length, getD, take, drop}
 use lib.Dec.{ltb}
 use Rattle.laws.specs.Words.{Word}
 use Rattle.laws.specs.Model.{Machine, Kind, Model, machine, Accepted}
@@ -54,6 +54,11 @@ arrowRoom l = min (min (length (l .from)) (min (length (l .event)) (length (l .t
 -- WHAT A SLICE HOLDS after xs was written to its beginning: xs, then what stood there before
 unfoldable pub over : List ℕ → List ℕ → List ℕ
 over xs old = xs ++ drop (length xs) old
+
+-- past the first count places everything is as it was, and the slice is as long as it was
+pub record Kept (count : ℕ) (old new : List ℕ) : Type 0 where
+  pub as-long : length new ≡ length old
+  pub past : (i : ℕ) → count ≤ i → getD new i 0 ≡ getD old i 0
 
 -- the slices after entries or arrows were written to their beginnings
 unfoldable pub setSlices : List (Entry ℕ) → SetSlices → SetSlices

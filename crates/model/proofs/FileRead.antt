@@ -15,7 +15,7 @@ use Rattle.laws.proofs.Over.{over-first}
 use Rattle.laws.proofs.Checks.{passed-each, stopped-each, all-passed, first-stops}
 use Rattle.laws.proofs.FileForm.{read-fault, form-read, arrows-read, form-first}
 use Rattle.model.specs.Fields.{IsField}
-use Rattle.model.specs.Reader.{told, due, modelTold, ReadsFile, FrontRead, IsFront, refusalOf}
+use Rattle.model.specs.Reader.{told, tells, modelTold, ReadsFile, FrontRead, IsFront, refusalOf}
 use Rattle.model.specs.declared.Model.{Model}
 use Rattle.model.specs.declared.Reading.{Reading}
 use Rattle.model.specs.declared.Reading.the-variants.{Read, Refused}
@@ -63,22 +63,22 @@ module _ (file old : List ℕ) where
   numbers-first = over-first (read .model .arrows) old (read .model .k) (numbers-fit .0)
 
   -- what is told and what the slice holds is all: with number 0 the file is that of the model that now stands there
-  reads-as : {new : List ℕ} {answer : Reading} → told answer ≡ due read → new ≡ arrowSlice read old → ReadsFile file old new answer
-  unfolding due
+  reads-as : {new : List ℕ} {answer : Reading} → told answer ≡ tells read → new ≡ arrowSlice read old → ReadsFile file old new answer
+  unfolding tells
   reads-as {new} {answer} t s =
-      let form : read .fault .number ≡ 0 → fileOf (modelTold (due read) (arrowSlice read old)) ≡ file =
+      let form : read .fault .number ≡ 0 → fileOf (modelTold (tells read) (arrowSlice read old)) ≡ file =
       λ h. sym (form-first (read .model) (arrowSlice read old) numbers-first) ∙ form-read file (length old) h in
       record { told-is = t; arrows-are = s; form-is = λ h. rw (t, s) (form (ap (λ u. u .number) (sym t) ∙ h)) }
 
   -- a first fault is told, and the slice is as it was
   refuses : {number offset : ℕ} → 0 < number → first ≡ record { number = number; offset = offset }
       → ReadsFile file old old (Refused number offset)
-  unfolding told due arrowSlice over found
+  unfolding told tells arrowSlice over found
   refuses {number = zero} l e = absurd (omega arith)
   refuses {number = suc number} {offset = offset} l e =
       let f : FirstFault = record { number = suc number; offset = offset } in
-      let tells : told (Refused (suc number) offset) ≡ due (readWith f) = rw (ne-eqb (suc number) 0 (λ z. omega arith)) in
-      reads-as (tells ∙ sym (ap due (read-with e))) (sym (ap (λ r. arrowSlice r old) (read-with e)))
+      let same : told (Refused (suc number) offset) ≡ tells (readWith f) = rw (ne-eqb (suc number) 0 (λ z. omega arith)) in
+      reads-as (same ∙ sym (ap tells (read-with e))) (sym (ap (λ r. arrowSlice r old) (read-with e)))
 
   -- a fault before the events
   pub refuses-front : {answer : Reading} {number offset : ℕ} → answer ≡ Refused number offset → IsFront file (length old) answer
@@ -123,11 +123,11 @@ module _ (file old : List ℕ) where
         -- no fault at all: the model was read, and its arrow numbers stand in the slice
         pub reads : {at x : ℕ} {end : Field} {new : List ℕ} → at ≡ eventOffset (m .n) (m .k) → end ≡ Value x
             → IsField 8 (endChecks file at) 0 end → new ≡ over (take (m .k) numbers) old → ReadsFile file old new (Read m)
-        unfolding told due arrowSlice modelRead found
+        unfolding told tells arrowSlice modelRead found
         reads {at} there is field so =
             let (passed, _) = subst (IsField 8 (endChecks file at) 0) is field in
             let none : first ≡ record { number = 0; offset = 0 } = behind-events (rw (← there) (all-passed (endChecks file at) passed)) in
             let e = read-with none in
             let stand = all-gathered g (h .k-most) all in
-            reads-as (rw (h .n-is, h .k-is, h .start-is, h .home-is) (sym (ap due e)))
+            reads-as (rw (h .n-is, h .k-is, h .start-is, h .home-is) (sym (ap tells e)))
             (so ∙ ap (λ xs. over xs old) (stand ∙ rw (h .n-is, h .k-is)) ∙ sym (ap (λ r. arrowSlice r old) e))

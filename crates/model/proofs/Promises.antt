@@ -1,25 +1,25 @@
 -- WHAT FOLLOWS FROM THE CONTRACTS OF THE MODEL'S CALLS: no second result meets them; and of reading: a model that was read is not refused,
 -- a file is read exactly if it is that of a model, and what is past the events stays as it was.
-use Prim.Native.Nat.{ℕ, _≤_}
+use Prim.Native.Nat.{ℕ, min, _≤_}
 use native.Mathlib.Omega.{arith}
 use mathlib.Core.Path.{_≡_, refl, sym, ap, ap₂, _∙_}
 use mathlib.Core.Logic.{_↔_}
 use mathlib.Core.List.{List}
-use lib.ListN.{length, getD, take}
+use lib.ListN.{length, take}
 use Rattle.laws.specs.Model as laws
 use Rattle.laws.specs.Model.{eight}
 use Rattle.laws.specs.Refusals.{firstOf, modelChecks, Unrefused}
 use Rattle.laws.specs.File as paper
 use Rattle.laws.specs.File.{fileOf, reading}
-use Rattle.laws.specs.Answers.{arrowSlice}
-use Rattle.laws.proofs.Booleans.{never}
+use Rattle.laws.specs.Answers.{Kept, arrowSlice}
+use Rattle.laws.proofs.Booleans.{never, one-value}
 use Rattle.laws.proofs.Unrefused.{as-asked}
 use Rattle.laws.proofs.Read.{withArrows, event-same}
-use Rattle.laws.proofs.Over.{over-length, over-past}
+use Rattle.laws.proofs.Over.{over-length, written}
 use Rattle.laws.proofs.FileForm.{unrefused-read}
 use Rattle.laws.proofs.FileBack.{valid-exactly}
 use Rattle.model.specs.Asked.{asked}
-use Rattle.model.specs.Reader.{told, due, modelTold, ReadsFile}
+use Rattle.model.specs.Reader.{told, tells, modelTold, ReadsFile}
 use Rattle.model.specs.declared.Model.{Model}
 use Rattle.model.specs.declared.Reading.{Reading}
 use Rattle.model.specs.declared.Reading.the-variants.{Read, Refused}
@@ -28,7 +28,11 @@ use Rattle.model.proofs.FileRead.{numbers-fit, numbers-first}
 -- WHAT IS REFUSED OF A MODEL is one number
 pub one-refusal : (m : Model) (arrows : List ℕ) {r s : ℕ} → r ≡ firstOf (modelChecks eight (asked m arrows)) .number
     → s ≡ firstOf (modelChecks eight (asked m arrows)) .number → r ≡ s
-one-refusal m arrows is other = is ∙ sym other
+one-refusal m arrows = one-value
+
+-- and so is the smaller of two numbers
+pub one-least : (a b : ℕ) {r s : ℕ} → r ≡ min a b → s ≡ min a b → r ≡ s
+one-least a b = one-value
 
 -- a model of the code is its numbers and masks
 same-model : (a b : Model) → a .n ≡ b .n → a .k ≡ b .k → a .start ≡ b .start → a .home ≡ b .home → a ≡ b
@@ -76,11 +80,11 @@ module _ {file old new : List ℕ} {answer : Reading} (c : ReadsFile file old ne
 
   -- what is told, of what is found in the file
   number-is : told answer .number ≡ read .fault .number
-  unfolding due
+  unfolding tells
   number-is = ap (λ t. t .number) (c .told-is)
 
   model-is : modelTold (told answer) new ≡ withArrows (read .model) (arrowSlice read old)
-  unfolding due
+  unfolding tells
   model-is = rw (c .told-is, c .arrows-are)
 
   -- A MODEL IS READ exactly if the file is that of a model as asked, for whose arrows there is room
@@ -88,14 +92,9 @@ module _ {file old new : List ℕ} {answer : Reading} (c : ReadsFile file old ne
   read-exactly = rw number-is (valid-exactly file (length old))
 
   -- the slice is as long as before, and past the events, all of it after a refusal, it is as it was
-  pub read-kept : (length new ≡ length old) × ((i : ℕ) → told answer .k ≤ i → getD new i 0 ≡ getD old i 0)
-  unfolding due arrowSlice
-  read-kept =
-      let (all, fits) = numbers-fit file old in
-      rw (c .told-is, c .arrows-are) (
-        over-length (read .model .arrows) old (omega arith),
-        λ i l. over-past (read .model .arrows) old i (omega arith),
-      )
+  pub read-kept : Kept (told answer .k) old new
+  unfolding tells arrowSlice
+  read-kept = let (all, fits) = numbers-fit file old in rw (c .told-is, c .arrows-are) (written _ old _ all fits)
 
   told-unrefused : told answer .number ≡ 0 → firstOf (modelChecks eight (modelTold (told answer) new)) .number ≡ 0
   unfolding arrowSlice

@@ -31,8 +31,8 @@ told (Read m) = record { isRead = true; number = 0; offset = 0; n = m .n; k = m 
 told (Refused number offset) = record { isRead = false; number = number; offset = offset; n = 0; k = 0; start = 0; home = 0 }
 
 -- the same of what document 01 finds in a file: a model is read exactly with number 0
-unfoldable pub due : paper.Reading → Told
-due r =
+unfoldable pub tells : paper.Reading → Told
+tells r =
     record {
       isRead = eqb (r .fault .number) 0;
       number = r .fault .number;
@@ -50,7 +50,7 @@ modelTold t arrows = record { n = t .n; k = t .k; start = t .start; home = t .ho
 -- THE CONTRACT OF READING: the slice of arrows was old when it was lent, and is now new
 pub record ReadsFile (file old new : List ℕ) (answer : Reading) : Type 0 where
   -- the number, the offset, n, k and both masks
-  pub told-is : told answer ≡ due (paper.reading file (length old))
+  pub told-is : told answer ≡ tells (paper.reading file (length old))
   -- a number for each event and then what stood there before; as it was after a refusal
   pub arrows-are : new ≡ arrowSlice (paper.reading file (length old)) old
   -- with number 0 the file is, byte for byte, that of the model that now stands there

@@ -10,13 +10,13 @@ use lib.ListN.{length, take, getElem?, length-map}
 use Rattle.laws.specs.Model.{eight}
 use Rattle.laws.specs.Opposite.{Arrow, sorted}
 use Rattle.laws.specs.Answers.{SetSlices, ProfileSlices, OppositeSlices, setRoom, profileRoom, stateRoom, arrowRoom, oppositeSlices}
-use Rattle.laws.specs.Answers.{over, oppositeIn}
+use Rattle.laws.specs.Answers.{over, Kept, oppositeIn}
 use Rattle.laws.proofs.Answered.{opposite-within, opposite-sorted, opposite-inside}
+use Rattle.laws.proofs.Over.{written}
 use Rattle.laws.proofs.Read.{opposite-numbers}
 use Rattle.model.specs.Asked.{asked}
 use Rattle.model.specs.declared.Model.{Model}
-use Rattle.closing.specs.Memory.{Kept}
-use Rattle.closing.proofs.Promises.{one-closing, written}
+use Rattle.closing.proofs.Promises.{one-closing}
 use Rattle.opposite.specs.Memory.{arrowsIn}
 use Rattle.opposite.specs.Opposites.{told, tells, due, WritesOpposite}
 use Rattle.opposite.specs.declared.Answer.{Answer}

@@ -1,8 +1,13 @@
--- The verdict promises that u and v fit into the word memory that was lent.
+-- The tables and the word memory have the room that document 01 asks, so the lines of the answer are those of the model.
+use native.Mathlib.Omega.{arith}
+use mathlib.Core.Path.{refl}
 use borrow.Author.Needs.{needs}
+use Rattle.laws.specs.Answers.{setRoom, profileRoom}
 use Rattle.cover.proofs.Promises.{words-within}
-use Rattle.rung_check.proofs.check.Statement.{statement}
-use Rattle.rung_check.proofs.check.Tie as tie
+use Rattle.rung_check.proofs.Pieces.{puts-same}
+use Rattle.rung_check.proofs.Reporting.{answer-lines}
+use Rattle.rung_check.proofs.report.check.Statement.{statement}
+use Rattle.rung_check.proofs.report.check.Tie as tie
 
 slice-aggregate-verdict : tie.Need-slice-aggregate-verdict
 slice-aggregate-verdict c = search needs
@@ -28,17 +33,26 @@ slice-aggregate-verdict-7 c = search needs
 slice-aggregate-verdict-8 : tie.Need-slice-aggregate-verdict-8
 slice-aggregate-verdict-8 c = search needs
 
-slice-aggregate-verdict-9 : tie.Need-slice-aggregate-verdict-9
-slice-aggregate-verdict-9 c = search needs
-
 verdict-requires : tie.Need-verdict-requires
 verdict-requires c κs = search needs
 
-print-answer-requires : tie.Need-print-answer-requires
-print-answer-requires c κs = words-within (c .before .before .before .before .before .before .before .before .verdict .ensures)
+slice-aggregate-put-answer : tie.Need-slice-aggregate-put-answer
+slice-aggregate-put-answer c = search needs
+
+put-answer-requires : tie.Need-put-answer-requires
+put-answer-requires c κs =
+    let verdict = c .before .before .before .before .before .before .before .before .before .before in
+    omega (arith, words-within (verdict .verdict .ensures))
+
+same-length : tie.Need-same-length
+same-length c = search needs
 
 returns : tie.Need-returns
-returns c = search needs
+unfolding setRoom profileRoom
+returns c =
+    let put = c .before .before in
+    let verdict = put .before .before .before .before .before .before .before .before .before .before .before in
+    puts-same (answer-lines (verdict .verdict .ensures) refl refl refl) (put .put-answer .ensures)
 
 pub check-spec : {M : Type 1} → statement M
 check-spec =
@@ -52,7 +66,8 @@ check-spec =
     slice-aggregate-verdict-6
     slice-aggregate-verdict-7
     slice-aggregate-verdict-8
-    slice-aggregate-verdict-9
     verdict-requires
-    print-answer-requires
+    slice-aggregate-put-answer
+    put-answer-requires
+    same-length
     returns)
