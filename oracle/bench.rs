@@ -4,7 +4,7 @@
 
 use crate::model::{Model, MOST_EVENTS};
 use crate::opposite::counted;
-use crate::opposites::{at_the_limit, bench_runs, near_the_limits};
+use crate::opposite_runs::{at_the_limit, bench_runs, near_the_limits};
 use crate::straight::Lent;
 use crate::tables::Tables;
 use crate::vectors::{closed_once, large, opposed_once};

@@ -7,7 +7,7 @@ use crate::damage::{
 };
 use crate::file::bytes_of;
 use crate::model::{Model, MOST_EVENTS, MOST_STATES};
-use crate::opposites::{refused_runs, runs};
+use crate::opposite_runs::{refused_runs, runs};
 use crate::program::{compare, kind};
 use crate::random::Random;
 use crate::tables::Tables;

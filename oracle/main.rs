@@ -10,7 +10,7 @@ mod long;
 mod machine;
 mod model;
 mod opposite;
-mod opposites;
+mod opposite_runs;
 mod paths;
 mod profile;
 mod program;

@@ -4,7 +4,7 @@
 use crate::course::{accepts, Course};
 use crate::model::{bit, hand_worked, named, own_models, Model, Verdict};
 use crate::opposite::counted;
-use crate::opposites::{at_the_limit, near_the_limits, of_every_size, refused_runs, runs, Run};
+use crate::opposite_runs::{at_the_limit, near_the_limits, of_every_size, refused_runs, runs, Run};
 use crate::random::Random;
 use crate::tables::{Entry, Tables};
 use std::collections::HashSet;
