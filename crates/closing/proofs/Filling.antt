@@ -61,12 +61,12 @@ module _ {Value : Type 0} (Val : WordValue Value) (room : ℕ) where
   longer (full _ _ p) = rw p (omega arith)
 
   -- entering takes no entry away
-  pub enter-longer : (e : Entry Value) (t : Table Value) → length (t .entries) ≤ length (enter Val room e t .entries)
+  enter-longer : (e : Entry Value) (t : Table Value) → length (t .entries) ≤ length (enter Val room e t .entries)
   enter-longer e t =
       ⊎-elim (λ h. rw (enter-still Val room e t h) (omega arith)) (λ h. longer (entered Val room e t h)) (either (t .cut))
 
   -- nor do the events
-  pub events-longer : (i : ℕ) (x : Option Value) (d a : ℕ) (t : Table Value)
+  events-longer : (i : ℕ) (x : Option Value) (d a : ℕ) (t : Table Value)
       → length (t .entries) ≤ length (byEvents Val room i x d a t .entries)
   unfolding byEvents
   events-longer i x zero a t = omega arith
@@ -114,7 +114,7 @@ module _ {Value Slices : Type 0} {write : List (Entry Value) → Slices → Slic
 
   module _ {room : ℕ} {old now : Slices} {n : ℕ} {es : List (Entry Value)} (g : Going write room old now n es) where
     -- what is read there are the entries written
-    pub entries-read : read now n ≡ es
+    entries-read : read now n ≡ es
     entries-read = rw (g .slices, g .count) (L .back es old)
 
     -- there is room in the slices as they are now
@@ -122,7 +122,7 @@ module _ {Value Slices : Type 0} {write : List (Entry Value) → Slices → Slic
     still-lent {m} h = rw (g .slices, g .count) (L .lent es old m room h (omega (arith, g .count, g .within)))
 
     -- filling the slices as they are now fills them as they were
-    pub onward : {t : Table Value} {new : Slices} {answer : Filled} → length es ≤ length (t .entries) → Fills write room t now new answer
+    onward : {t : Table Value} {new : Slices} {answer : Filled} → length es ≤ length (t .entries) → Fills write room t now new answer
         → Fills write room t old new answer
     onward {t} h f =
         record {

@@ -23,12 +23,12 @@ module _ {A B : Type 0} (f : A → B) where
   map-at (y ∷ xs) (suc i) h = map-at xs i h
 
   -- one element more
-  pub map-one-more : (xs : List A) (x : A) → map f (xs ++ (x ∷ [])) ≡ map f xs ++ (f x ∷ [])
+  map-one-more : (xs : List A) (x : A) → map f (xs ++ (x ∷ [])) ≡ map f xs ++ (f x ∷ [])
   map-one-more [] x = refl
   map-one-more (y ∷ xs) x = ap (λ (r : List B). f y ∷ r) (map-one-more xs x)
 
 -- what stands at a place is read there
-pub getD-some : {A : Type 0} (xs : List A) (i : ℕ) (d : A) {x : A} → getElem? xs i ≡ some x → getD xs i d ≡ x
+getD-some : {A : Type 0} (xs : List A) (i : ℕ) (d : A) {x : A} → getElem? xs i ≡ some x → getD xs i d ≡ x
 getD-some [] i d h = absurd (not-nothing h)
 getD-some (y ∷ xs) zero d h = inside h
 getD-some (y ∷ xs) (suc i) d h = getD-some xs i d h

@@ -13,7 +13,7 @@ use Rattle.laws.specs.Answers.{SetSlices, ProfileSlices, setRoom, profileRoom, 
 use Rattle.laws.specs.Answers.{verdictAnswer, closingIn, verdictIn, wordMemory}
 use Rattle.laws.proofs.Answered.{verdict-refused, verdict-answers}
 use Rattle.model.specs.Asked.{asked}
-use Rattle.closing.specs.Memory.{setMemory, profileMemory, setsIn, profilesIn, SetsLent, ProfilesLent}
+use Rattle.closing.specs.Memory.{setMemory, profileMemory, setsIn, profilesIn}
 use Rattle.closing.specs.Closing as closing
 use Rattle.cover.specs.Verdicts.{told, isCovered, tells, given, due, GivesVerdict, Stored, wholly, Concludes}
 use Rattle.model.specs.declared.Model.{Model}

@@ -183,7 +183,7 @@ module _ (K : Kind) (m : Model) (a b : ℕ) where
           rw (f, p, q, closingOf) (closing-0 f sets hs (ltb-false a (length sets) p) profiles hp (ltb-false b (length profiles) q))
 
   -- its numbers are 0 to 5
-  pub model-numbers : firstOf (modelChecks K m) .number ≤ 3
+  model-numbers : firstOf (modelChecks K m) .number ≤ 3
   unfolding modelChecks refuse fault everyOf
   model-numbers = leb-true _ 3 (first-number (λ n. leb n 3) refl (modelChecks K m) refl)
 

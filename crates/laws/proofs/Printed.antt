@@ -1,7 +1,7 @@
 -- What is printed for files, computed of the definitions: document 01's five lines for C, a covered model, and refusals of the reader.
 -- Assumes nothing.
 use mathlib.Core.Path.{_≡_, refl}
-use mathlib.Core.List.{List, [], _∷_, _++_}
+use mathlib.Core.List.{[], _∷_, _++_}
 use lib.ListN.{take}
 use Rattle.laws.specs.File.{fileOf}
 use Rattle.laws.specs.Program.{digitsWithin, decimal, letters, wordLine, countLine, verdictLines, answerLines, faultLine, told, printed}

@@ -7,7 +7,7 @@ use mathlib.Core.Bool.{Bool, true, false, not, cond}
 use mathlib.Core.List.{List, [], _∷_, _++_, map}
 use lib.ListN.{length, replicate, length-append, length-map, length-replicate}
 use lib.Dec.{eqb}
-use Rattle.laws.specs.Bits.{counted, someOf, everyOf, keep, gather, placeOf, eachBelow}
+use Rattle.laws.specs.Bits.{someOf, everyOf, keep, gather, placeOf, eachBelow}
 use Rattle.laws.specs.Model.{Machine}
 use Rattle.laws.specs.Profiles.{Profile, sameProfile, join, image, isFitting, marksRound, isRejecting, after, eventProfile}
 use Rattle.laws.specs.Profiles.{nextProfile}

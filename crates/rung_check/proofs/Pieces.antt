@@ -4,7 +4,7 @@ use native.Mathlib.Omega.{arith}
 use native.Mathlib.Numerals.{add-one}
 use mathlib.Core.Path.{_≡_, refl, sym, ap, subst, _∙_}
 use mathlib.Core.List.{List, [], _∷_, _++_, append-assoc, append-nil}
-use lib.ListN.{length, getD, take, drop, set, length-append, length-take, take-append-drop}
+use lib.ListN.{length, getD, take, set, length-append, length-take, take-append-drop}
 use lib.Seq.{take-at, take-all, take-suc, take-length, length-take-le, take-append-le, set-split, append-snoc, drop-length}
 use Rattle.laws.specs.Answers.{over}
 use Rattle.laws.proofs.Over.{over-length, over-again}

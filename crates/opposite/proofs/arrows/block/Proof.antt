@@ -1,6 +1,6 @@
 -- The gate's arrows are written, and then those of one state each turn. The loop keeps that those of the states from number i on are left
 -- to write.
-use Prim.Native.Nat.{_+_, _≤_, _-_}
+use Prim.Native.Nat.{_≤_, _-_}
 use native.Mathlib.Omega.{arith}
 use mathlib.Core.Path.{_∙_}
 use borrow.Author.Needs.{needs}

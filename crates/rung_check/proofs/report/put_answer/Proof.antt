@@ -4,7 +4,7 @@ use native.Mathlib.Omega.{arith}
 use native.Mathlib.Nat.{sub-zero, add-sub-cancel-left}
 use mathlib.Core.Path.{_≡_, sym, subst}
 use mathlib.Core.List.{List, _++_}
-use lib.ListN.{length, take, drop}
+use lib.ListN.{take, drop}
 use borrow.Author.Needs.{needs}
 use Rattle.laws.specs.Program.{sets-text, profiles-text, covered-text, uncovered-text, refused-text, lineEnd}
 use Rattle.laws.specs.Program.{countLine, wordLine, verdictLines, answerLines}

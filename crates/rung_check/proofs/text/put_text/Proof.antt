@@ -1,6 +1,5 @@
 -- The bytes before `i` are put, and each turn puts the next behind them.
 use Prim.Native.Nat.{_≤_, _-_}
-use native.Mathlib.Omega.{arith}
 use lib.ListN.{length, take}
 use borrow.Author.Needs.{needs}
 use Rattle.rung_check.specs.Putting.{Puts}
