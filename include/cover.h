@@ -5,8 +5,8 @@
  * end. The model accepts the course if some start state has a way along its events, arrow by arrow, that comes past a home state again and
  * again for ever.
  *
- * Link target/staticlib/libeditor.a (x86-64 Linux), which `rt staticlib editor` proves and writes. Both calls take any numbers and slices of
- * any length, refuse what they cannot check, and always return. They keep no pointer and allocate nothing. A word is rebuilt by a call for
+ * Link target/staticlib/libeditor.a (x86-64 Linux), which `rt staticlib editor` proves and writes. Both calls take any numbers and slices
+ * of any length, refuse what they cannot check, and always return. They keep no pointer and allocate nothing. A word is rebuilt by a call for
  * each of its letters, 64 bytes of stack each as it is built now: with words of up to 2,048 letters that is up to 128 KiB.
  *
  * What the caller sees to. Each slice is a pointer and, behind it, how many elements stand there (elements, not bytes). The pointer is not
@@ -24,10 +24,10 @@
 extern "C" {
 #endif
 
-/* The most room that is ever used: so many places in each of the three set slices, in each of the four profile slices, so many bytes of word
- * memory, and so many places in each of the three slices of the opposite's arrows and in that of its flags. With these 4 and 6 never come, 5
- * comes only for a model with more than 2,048 profiles, and 7 only for an opposite with more than 65,535 states or arrows, which no room can
- * help. Slices may be longer; what is behind these lengths is never touched. */
+/* No more room than this is ever used, of word memory one byte less: so many places in each of the three set slices and of the four profile
+ * slices, so many bytes of word memory, and so many places in each of the three slices of the opposite's arrows and in that of its flags.
+ * With these 4 and 6 never come, 5 comes only for a model with more than 2,048 profiles, and 7 only for an opposite with more than 65,535
+ * states or arrows, which no room can help. Slices may be longer; what is behind these lengths is never touched. */
 #define COVER_SETS 256
 #define COVER_PROFILES 2048
 #define COVER_WORDS 2304
@@ -39,7 +39,7 @@ extern "C" {
 #define COVER_NO_EVENT 255
 
 /* CoverVerdict.number and CoverOpposite.number: 0, or why there is no verdict or no opposite. Of several reasons the first in this list is
- * given; 6 comes with a verdict only, and 7 with an opposite only. */
+ * given; 6 is given by cover_verdict only, and 7 by cover_opposite only. */
 #define COVER_DONE 0          /* a verdict is given, or an opposite is written */
 #define COVER_OUT_OF_RANGE 1  /* n is not 1 to 8, or k is not 1 to 16 */
 #define COVER_FEW_ARROWS 2    /* arrows has fewer than k numbers */
@@ -47,8 +47,8 @@ extern "C" {
 #define COVER_MORE_SETS 4     /* the model has more sets than room: the shortest of the three set slices, at most 256 */
 #define COVER_MORE_PROFILES 5 /* the model has more profiles than room: the shortest of the four profile slices, at most 2,048 */
 #define COVER_MORE_LETTERS 6  /* the model is not covered, and u and v together have more letters than the word memory has bytes */
-#define COVER_MORE_OPPOSITE 7 /* the opposite has more states than its flags have places, or more arrows than the shortest of their three slices
-                                 has, or more than 65,535 of either */
+#define COVER_MORE_OPPOSITE 7 /* the opposite has more states than its flags have places, or more arrows than the shortest of their three
+                                 slices has, or more than 65,535 of either */
 
 /* CoverVerdict.verdict */
 #define COVER_NO_VERDICT 0 /* with every number but COVER_DONE */
@@ -59,7 +59,7 @@ extern "C" {
 typedef struct CoverVerdict {
   uint8_t number;
   uint8_t verdict;
-  size_t sets;     /* how many sets stand in the set slices: after 0, 5 and 6 all; after 4 as many as there is room; after 1, 2 and 3 none */
+  size_t sets;     /* how many sets stand in their slices: after 0, 5 and 6 all; after 4 as many as there is room; after 1, 2 and 3 none */
   size_t profiles; /* the same of profiles: after 0 and 6 all; after 5 as many as there is room; after 1 to 4 none */
   size_t u;        /* how many letters u has; 0 unless the verdict is COVER_UNCOVERED */
   size_t v;        /* how many letters v has; 0 unless the verdict is COVER_UNCOVERED, and then at least 1 */
@@ -84,15 +84,15 @@ CoverVerdict cover_verdict(
     /* written, a place for each profile; of more than COVER_PROFILES places no more are used, and a model with more profiles gets 5 */
     uint64_t *profile_arrows, size_t profile_arrows_length, /* bit 8*p+q: the word leads p to q */
     uint64_t *profile_marks, size_t profile_marks_length,   /* bit 8*p+q: and that is marked */
-    uint16_t *profile_from, size_t profile_from_length,     /* the profile of the word without its last event; COVER_NO_ENTRY for one event */
+    uint16_t *profile_from, size_t profile_from_length,     /* that of the word without its last event; COVER_NO_ENTRY for one event */
     uint8_t *profile_event, size_t profile_event_length,    /* its last event */
-    /* written when the verdict is COVER_UNCOVERED, and only then: u, and right behind it v, a byte for each event; COVER_WORDS are enough */
+    /* written only when the verdict is COVER_UNCOVERED: u, and right behind it v, a byte for each event; COVER_WORDS are enough */
     uint8_t *memory, size_t memory_length);
 
 /* The opposite's answer. Compare it field by field: there are unused bytes between the fields. */
 typedef struct CoverOpposite {
   uint8_t number;
-  size_t sets;     /* how many sets stand in the set slices: after 0, 5 and 7 all; after 4 as many as there is room; after 1, 2 and 3 none */
+  size_t sets;     /* how many sets stand in their slices: after 0, 5 and 7 all; after 4 as many as there is room; after 1, 2 and 3 none */
   size_t profiles; /* the same of profiles: after 0 and 7 all; after 5 as many as there is room; after 1 to 4 none */
   size_t states;   /* how many states the opposite has, at least 1; 0 with every number but COVER_DONE */
   size_t arrows;   /* how many arrows it has, at least 1; 0 with every number but COVER_DONE */
@@ -101,8 +101,8 @@ typedef struct CoverOpposite {
 /* The opposite of a model: a machine over the same events that accepts exactly the courses that the model does not accept. Its states are 0
  * to states-1, and its only start state is 0. It accepts a course as a model does, with its accepting states for home states.
  *
- * The arrows are sorted by where they start, then by their event, then by where they lead, and none is there twice. The first states are the
- * sets, by their numbers. In every slice everything past the count is left as it was, whatever the number; after a refusal nothing of the
+ * The arrows are sorted by where they start, then by their event, then by where they lead, and none is there twice. The first states are
+ * the sets, by their numbers. In every slice everything past the count is left as it was, whatever the number; after a refusal nothing of the
  * opposite is written. */
 CoverOpposite cover_opposite(
     size_t n, size_t k, uint8_t start, uint8_t home, const uint64_t *arrows, size_t arrows_length, /* the model, as for the verdict */
@@ -114,7 +114,7 @@ CoverOpposite cover_opposite(
     uint16_t *from, size_t from_length, /* the state where it starts */
     uint8_t *event, size_t event_length,
     uint16_t *to, size_t to_length, /* the state where it leads */
-    /* written, a place for each state of the opposite, 1 if it is accepting and else 0; of more than COVER_STATES places no more are used */
+    /* written, a place for each state of the opposite, 1 if it is accepting, else 0; of more than COVER_STATES places no more are used */
     uint8_t *flags, size_t flags_length);
 
 #ifdef __cplusplus

@@ -4,7 +4,8 @@ use mathlib.Core.Path.{_≡_, refl}
 use mathlib.Core.List.{[], _∷_, _++_}
 use lib.ListN.{take}
 use Rattle.laws.specs.File.{fileOf}
-use Rattle.laws.specs.Program.{digitsWithin, decimal, letters, wordLine, countLine, verdictLines, answerLines, faultLine, told, printed}
+use Rattle.laws.specs.Program.{digitsWithin, decimal, letters, wordLine, countLine, verdictLines}
+use Rattle.laws.specs.Program.{answerLines, faultLine, told, printed}
 use Rattle.laws.specs.HandWorked.{A, C}
 use Rattle.laws.proofs.Computed.{computed}
 

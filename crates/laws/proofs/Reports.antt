@@ -14,7 +14,8 @@ use Rattle.laws.specs.Profiles.{Verdict, covered, uncovered, verdict}
 use Rattle.laws.specs.Refusals.{Fault}
 use Rattle.laws.specs.File.{reading}
 use Rattle.laws.specs.Answers.{ClosingAnswer, closingAnswer, verdictAnswer}
-use Rattle.laws.specs.Program.{digitsWithin, decimal, letters, wordLine, countLine, verdictLines, answerLines, faultLine, told, printed}
+use Rattle.laws.specs.Program.{digitsWithin, decimal, letters, wordLine, countLine, verdictLines}
+use Rattle.laws.specs.Program.{answerLines, faultLine, told, printed}
 use Rattle.laws.specs.Program.{sets-text, profiles-text, refused-text, at-text}
 use Rattle.laws.proofs.Places.{length-one-more}
 use Rattle.laws.proofs.Answered.{closing-whole, verdict-refused, verdict-covered, verdict-6, verdict-uncovered, verdict-answers}
@@ -120,7 +121,8 @@ module _ (m : Model) where
           let is = verdict-uncovered 8 C 2304 e u v x fits in
           let (_, right) =
           verdict-answers eight m 256 2048 2304 (omega arith) (omega arith) (omega arith) (ap (λ d. d .number) is) in
-          let few = course-few (m .k) (omega (arith, closing-whole eight m 256 2048 e .model .k-most)) u v (right .uncovered-course u v x) in
+          let most = closing-whole eight m 256 2048 e .model .k-most in
+          let few = course-few (m .k) (omega (arith, most)) u v (right .uncovered-course u v x) in
           rw is
           (omega (arith, given-few 0 (length (C .sets)) (length (C .profiles)) (14 + 3 * length (u ++ v)) (uncovered u v) few))
 

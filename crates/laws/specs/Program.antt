@@ -78,7 +78,7 @@ faultLine f = refused-text ++ decimal (f .number) ++ countLine at-text (f .offse
 unfoldable pub told : VerdictAnswer → List ℕ
 told d = answerLines (d .number) (length (d .sets)) (length (d .profiles)) (d .verdict)
 
--- WHAT IS PRINTED FOR A FILE: the reader's refusal, or what the verdict says with tables of 256 sets and 2,048 profiles and 2,304 word bytes
+-- WHAT IS PRINTED FOR A FILE: the reader's refusal, or what the verdict says with tables of 256 sets, 2,048 profiles and 2,304 bytes
 unfoldable pub printed : List ℕ → List ℕ
 printed file =
     let r : Reading = reading file 16 in

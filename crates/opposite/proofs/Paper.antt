@@ -11,8 +11,8 @@ use Rattle.laws.specs.Bits.{someOf, everyOf, keep, gather, placeOf, eachBelow}
 use Rattle.laws.specs.Model.{Machine}
 use Rattle.laws.specs.Profiles.{Profile, sameProfile, join, image, isFitting, marksRound, isRejecting, after, eventProfile}
 use Rattle.laws.specs.Profiles.{nextProfile}
-use Rattle.laws.specs.Opposite.{hasBlock, Arrow, arrow, rejectsNonEmpty, gate, inBlock, onto, blockProfiles, flags, fromSet, fromGate, fromState}
-use Rattle.laws.specs.Opposite.{fromBlock, arrows}
+use Rattle.laws.specs.Opposite.{Arrow, arrow, rejectsNonEmpty, hasBlock, gate, inBlock, onto, blockProfiles, flags}
+use Rattle.laws.specs.Opposite.{fromSet, fromGate, fromState, fromBlock, arrows}
 use Rattle.laws.proofs.Booleans.{both, and-left, and-right}
 use Rattle.laws.proofs.Checks.{each-same}
 use Rattle.laws.proofs.Members.{some-member}

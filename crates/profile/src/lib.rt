@@ -1,5 +1,5 @@
-// One profile: joined with another, made from one event, the set that it leads a set to, and whether it rejects with a set. Each public call
-// takes any numbers.
+// One profile: joined with another, made from one event, the set that it leads a set to, and whether it rejects with a set. Each public
+// call takes any numbers.
 mod bits;
 mod pairs;
 

@@ -53,7 +53,8 @@ letters-next memory from i h l =
     let more : i + 1 - from ≡ suc (i - from) = omega arith in
     let place : from + (i - from) ≡ i = omega arith in
     let inside : i - from < length (drop from memory) = simp length-drop (omega arith) in
-    rw (more, take-suc (drop from memory) (i - from) 0 inside, getD-drop, place) (letters-more (take (i - from) (drop from memory)) (getD memory i 0))
+    rw (more, take-suc (drop from memory) (i - from) 0 inside, getD-drop, place)
+    (letters-more (take (i - from) (drop from memory)) (getD memory i 0))
 
 pub letters-none : (memory : List ℕ) (from : ℕ) → letters (take (from - from) (drop from memory)) ≡ []
 unfolding letters

@@ -45,7 +45,8 @@ module _ (old : List ℕ) (at : ℕ) (within : at ≤ length old) where
 pub puts-none : (old : List ℕ) (at b : ℕ) → at ≡ length old → Puts (b ∷ []) old at old at
 unfolding textPut over
 puts-none old at b full =
-    let text : textPut (b ∷ []) old at ≡ old = rw (full, take-length) (take-append-le (length old) old (b ∷ []) (omega arith) ∙ take-length old) in
+    let first = take-append-le (length old) old (b ∷ []) (omega arith) in
+    let text : textPut (b ∷ []) old at ≡ old = rw (full, take-length) (first ∙ take-length old) in
     record {
       slice = rw (text, drop-length, append-nil);
       length-is = rw text full;

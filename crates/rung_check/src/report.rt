@@ -94,7 +94,9 @@ fn put_fault(number: u8, offset: usize, out: &mut [u8]) -> usize
 
 // The verdict of a model, with tables of as many sets and profiles as are ever used, and room for every u and v.
 fn check(m: Model, arrows: &[u64], out: &mut [u8]) -> usize
-    ensures { λ r. ⌜ Puts (linesOf (verdictAnswer eight (asked m (now (arrows .entry))) 256 2048 2304)) (now (out .entry)) 0 (now (out .exit)) r ⌝ }
+    ensures { λ r. ⌜ Puts
+        (linesOf (verdictAnswer eight (asked m (now (arrows .entry))) 256 2048 2304))
+        (now (out .entry)) 0 (now (out .exit)) r ⌝ }
 {
     let mut set_masks = [0u8; 256];
     let mut set_from = [65535u16; 256];

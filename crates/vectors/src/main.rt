@@ -1,6 +1,6 @@
 // Runs the stored models through the library: closing and the verdict, each with every slice in turn lent too short, just right and too
-// long, and with all of them of different lengths; single courses; and opposites. For each run the answer and all memory go into a sum, of an
-// opposite all lent memory. The file stdout was written by the independent program.
+// long, and with all of them of different lengths; single courses; and opposites. For each run the answer and all memory go into a sum,
+// of an opposite all lent memory. The file stdout was written by the independent program.
 ghost use Prim.Native.Nat.{_≤_};
 use course::Judgement;
 use libc::STDIN_FILENO;
@@ -182,8 +182,8 @@ fn show_different(
     print(mix(mix(all.sum, some.sum), few.sum), b'\n');
 }
 
-// From which slice on each is lent too short: none where the model itself is refused, and so has no set, and only those from `late` on where there are many
-// profiles.
+// From which slice on each is lent too short: none where the model itself is refused, and so has no set, and only those from `late` on
+// where there are many profiles.
 fn first_short(seen: Seen, none: usize, late: usize) -> usize {
     if seen.sets == 0 {
         return none;

@@ -1,5 +1,5 @@
--- The loop keeps that what is left to read, from the set so far, gives the set of the word, whichever readable model with this start mask is
--- meant: the loop itself has only the arrows. The set of the empty word is the start mask.
+-- The loop keeps that what is left to read, from the set so far, gives the set of the word, whichever readable model with this start mask
+-- is meant: the loop itself has only the arrows. The set of the empty word is the start mask.
 use Prim.Native.Nat.{_-_}
 use native.Mathlib.Omega.{arith}
 use mathlib.Core.Path.{_≡_, refl, _∙_}
@@ -53,7 +53,8 @@ loop-less c = search needs
 loop-again : tie.Need-loop-again Inv-loop μ-loop
 loop-again c m r e =
     let l = c .before .before .before .loop-test .taken in
-    set-turn _ 8 _ _ (c .before .before .before .before .loop .inv m r e) l (c .image .ensures ∙ set-after _ (r .model) _ _ (letter-below _ _ _ (r .letters) l))
+    set-turn _ 8 _ _ (c .before .before .before .before .loop .inv m r e) l
+    (c .image .ensures ∙ set-after _ (r .model) _ _ (letter-below _ _ _ (r .letters) l))
 
 returns : tie.Need-returns Inv-loop μ-loop
 returns c = set-end _ 8 _ (c .before .loop .inv _ (c .before .before .before .before .pre) refl) (c .loop-test .left)

@@ -82,14 +82,16 @@ unfolding told
 put-word-requires c κs =
     let text = c .before .before .before in
     let case = text .before .before .before .before .before .before .before .before in
-    (search needs, omega (arith, in-memory _ (case .answer2 .given .1) (case .before .before .before .before .pre)), put-within (text .put-text2 .ensures))
+    let fits = in-memory _ (case .answer2 .given .1) (case .before .before .before .before .pre) in
+    (search needs, omega (arith, fits), put-within (text .put-text2 .ensures))
 
 put-word-requires-2 : tie.Need-put-word-requires-2
 unfolding told
 put-word-requires-2 c κs =
     let first = c .before .before .before in
     let case = first .before .before .before .before .before .before .before .before .before .before .before .before in
-    (omega arith, omega (arith, in-memory _ (case .answer2 .given .1) (case .before .before .before .before .pre)), put-within (first .put-word .ensures))
+    let fits = in-memory _ (case .answer2 .given .1) (case .before .before .before .before .pre) in
+    (omega arith, omega (arith, fits), put-within (first .put-word .ensures))
 
 enum-known-answer-3 : tie.Need-enum-known-answer-3
 enum-known-answer-3 c = search needs
@@ -124,7 +126,8 @@ returns-2 c =
     let counts = text .before .before .before .before .before in
     let case = counts .before .before .before in
     case-lines _ (case .answer2 .given .1)
-    (uncovered-lines _ _ _ (counts .put-counts2 .ensures) _ _ (text .put-text2 .ensures) (first .put-word .ensures) (second .put-word2 .ensures))
+    (uncovered-lines _ _ _ (counts .put-counts2 .ensures) _ _ (text .put-text2 .ensures) (first .put-word .ensures)
+    (second .put-word2 .ensures))
 
 same-length-3 : tie.Need-same-length-3
 same-length-3 c = search needs
