@@ -8,7 +8,7 @@ use lib.ListN.{length, getD, take, set, length-append, length-take, take-append-
 use lib.Seq.{take-at, take-all, take-suc, take-length, length-take-le, take-append-le, set-split, append-snoc, drop-length}
 use Rattle.laws.specs.Answers.{over}
 use Rattle.laws.proofs.Over.{over-length, over-again}
-use Rattle.rung_check.specs.Putting.{textPut, Puts}
+use Rattle.rung_check.specs.Putting.{textPut, Puts, Stands}
 
 -- what was cut off once is cut off again
 take-again : (n : ℕ) (xs ys : List ℕ) → take n (take n xs ++ ys) ≡ take n (xs ++ ys)
@@ -84,6 +84,17 @@ module _ {xs old : List ℕ} {at : ℕ} {mid : List ℕ} {e : ℕ} (first : Puts
         slice = cc (over-again (textPut xs old at) (textPut ys mid e) old longer);
         length-is = second .length-is ∙ ap length text;
       }
+
+-- with room for all of it the whole text stands there
+pub puts-whole : {text old new : List ℕ} {r : ℕ} → length text ≤ length old → Puts text old 0 new r → Stands text old new r
+unfolding textPut
+puts-whole {text} {old} room puts =
+    let all : textPut text old 0 ≡ text = take-all (length old) text room in
+    record {
+      slice = puts .slice ∙ ap (λ t. over t old) all;
+      length-is = puts .length-is ∙ ap length all;
+      within = put-within puts;
+    }
 
 -- the first i bytes of a text, then the next; and all of them
 module _ (text : List ℕ) (i : ℕ) {old : List ℕ} {at : ℕ} {mid : List ℕ} {e : ℕ} where

@@ -7,7 +7,7 @@ ghost use Rattle.laws.specs.Answers.{verdictAnswer};
 ghost use Rattle.laws.specs.Program.{sets-text, profiles-text, countLine, wordLine, faultLine, answerLines, told as linesOf, printed};
 ghost use Rattle.model.specs.Asked.{asked};
 ghost use Rattle.cover.specs.Verdicts.{told, given};
-ghost use Rattle.rung_check.specs.Putting.{Puts};
+ghost use Rattle.rung_check.specs.Putting.{Puts, Stands};
 use crate::text::put;
 use crate::text::put_number;
 use crate::text::put_text;
@@ -121,9 +121,10 @@ fn check(m: Model, arrows: &[u64], out: &mut [u8]) -> usize
     put_answer(answer, &memory, out)
 }
 
-// What is printed for a file.
+// What is printed for a file, all of it: a longest report has no more than 8,192 bytes.
 pub fn report(file: &[u8], out: &mut [u8]) -> usize
-    ensures { λ r. ⌜ Puts (printed (now (file .entry))) (now (out .entry)) 0 (now (out .exit)) r ⌝ }
+    requires { ⌜ 8192 ≤ length (now out) ⌝ }
+    ensures { λ r. ⌜ Stands (printed (now (file .entry))) (now (out .entry)) (now (out .exit)) r ⌝ }
 {
     let mut arrows = [0u64; 16];
     let read = model::read(file, &mut arrows);

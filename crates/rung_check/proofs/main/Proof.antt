@@ -1,9 +1,8 @@
--- The report is within the slice lent for it.
+-- The slice has room for a longest report, and the report is within it.
 use native.Mathlib.Omega.{arith}
 use mathlib.Core.Path.{sym}
 use lib.Seq.{length-take-le}
 use borrow.Author.Needs.{needs}
-use Rattle.rung_check.proofs.Pieces.{put-within}
 use Rattle.rung_check.proofs.main.Statement.{statement}
 use Rattle.rung_check.proofs.main.Tie as tie
 
@@ -26,10 +25,10 @@ report-requires : tie.Need-report-requires
 report-requires c κs = search needs
 
 array-share-prefix-text : tie.Need-array-share-prefix-text
-array-share-prefix-text c = omega (arith, put-within (c .before .report .ensures))
+array-share-prefix-text c = omega (arith, c .before .report .ensures .within)
 
 slice-aggregate-write-all : tie.Need-slice-aggregate-write-all
-slice-aggregate-write-all c = sym (length-take-le _ _ (put-within (c .before .before .report .ensures)))
+slice-aggregate-write-all c = sym (length-take-le _ _ (c .before .before .report .ensures .within))
 
 write-all-requires : tie.Need-write-all-requires
 write-all-requires c κs = search needs

@@ -1,11 +1,15 @@
--- What reading answers has the lines of the file: those of the model, or of the fault.
-use Prim.Native.Nat.{ℕ}
+-- What reading answers has the lines of the file: those of the model, or of the fault. There is room for all of them.
+use Prim.Native.Nat.{ℕ, _≤_}
+use native.Mathlib.Omega.{arith}
 use mathlib.Core.Path.{_≡_, refl, sym, subst}
 use mathlib.Core.List.{List}
+use lib.ListN.{length}
 use borrow.Author.Needs.{needs}
+use Rattle.laws.specs.Program.{printed}
+use Rattle.laws.proofs.Theorems.{report-is-short}
 use Rattle.model.specs.Reader.{ReadsFile}
 use Rattle.model.specs.declared.Reading.{Reading}
-use Rattle.rung_check.proofs.Pieces.{puts-same}
+use Rattle.rung_check.proofs.Pieces.{puts-same, puts-whole}
 use Rattle.rung_check.proofs.Reporting.{read-lines, fault-lines}
 use Rattle.rung_check.proofs.report.report.Statement.{statement}
 use Rattle.rung_check.proofs.report.report.Tie as tie
@@ -13,6 +17,9 @@ use Rattle.rung_check.proofs.report.report.Tie as tie
 -- in the arm of a case that the reading is, the contract holds of the case
 is-read : {file old new : List ℕ} {reading case : Reading} → reading ≡ case → ReadsFile file old new reading → ReadsFile file old new case
 is-read {file} {old} {new} = subst (λ r. ReadsFile file old new r)
+
+has-room : (file : List ℕ) {room : ℕ} → 8192 ≤ room → length (printed file) ≤ room
+has-room file enough = omega (arith, report-is-short file)
 
 slice-aggregate-read : tie.Need-slice-aggregate-read
 slice-aggregate-read c = search needs
@@ -43,7 +50,8 @@ returns c =
     let checked = c .before .before in
     let case = checked .before .before .before .before in
     let read = case .before .before .before in
-    puts-same (sym (read-lines (is-read (case .read2 .given .1) (read .read .ensures)) refl)) (checked .check .ensures)
+    puts-whole (has-room _ (read .before .before .before .before .pre))
+    (puts-same (sym (read-lines (is-read (case .read2 .given .1) (read .read .ensures)) refl)) (checked .check .ensures))
 
 same-length-2 : tie.Need-same-length-2
 same-length-2 c = search needs
@@ -53,7 +61,8 @@ returns-2 c =
     let put = c .before .before in
     let case = put .before .before .before in
     let read = case .before .before .before in
-    puts-same (sym (fault-lines (is-read (case .read3 .given .1) (read .read .ensures)) refl)) (put .put-fault .ensures)
+    puts-whole (has-room _ (read .before .before .before .before .pre))
+    (puts-same (sym (fault-lines (is-read (case .read3 .given .1) (read .read .ensures)) refl)) (put .put-fault .ensures))
 
 pub report-spec : {M : Type 1} → statement M
 report-spec =
