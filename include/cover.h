@@ -1,16 +1,17 @@
-/* The check for an editor written in C: is every course of a model accepted, and if not, which one is not? And the opposite machine, which
- * accepts exactly the courses that the model does not.
+/* The check for an editor written in C: is every course of a model accepted, and if not, which one is not? The opposite machine, which
+ * accepts exactly the courses that the model does not. One course by itself. And a model from the bytes of its file.
  *
  * A course is a beginning u, which may be empty, and a round v of at least one event. u is read once, and then v again and again without
  * end. The model accepts the course if some start state has a way along its events, arrow by arrow, that comes past a home state again and
  * again for ever.
  *
- * Link target/staticlib/libeditor.a (x86-64 Linux), which `rt staticlib editor` proves and writes. Both calls take any numbers and slices
- * of any length, refuse what they cannot check, and always return. They keep no pointer and allocate nothing. A word is rebuilt by a call for
- * each of its letters, 64 bytes of stack each as it is built now: with words of up to 2,048 letters that is up to 128 KiB.
+ * Link target/staticlib/libeditor.a (x86-64 Linux), which `rt staticlib editor` proves and writes. The calls take any numbers and slices
+ * of any length, refuse what they cannot check, and always return. They keep no pointer and allocate nothing. For the verdict a word is
+ * rebuilt by a call for each of its letters, 64 bytes of stack each as it is built now: with words of up to 2,048 letters that is up to
+ * 128 KiB.
  *
  * What the caller sees to. Each slice is a pointer and, behind it, how many elements stand there (elements, not bytes). The pointer is not
- * NULL and is aligned for its element, also where the length is 0. The slices that are written overlap neither each other nor the arrows.
+ * NULL and is aligned for its element, also where the length is 0. The slices that are written overlap neither each other nor one that is read.
  * The caller owns all of them; the call borrows them until it returns, and meanwhile no other thread may use them. Several threads may
  * call at the same time, each with its own slices.
  */
@@ -38,17 +39,21 @@ extern "C" {
 #define COVER_NO_ENTRY 65535
 #define COVER_NO_EVENT 255
 
-/* CoverVerdict.number and CoverOpposite.number: 0, or why there is no verdict or no opposite. Of several reasons the first in this list is
- * given; 6 is given by cover_verdict only, and 7 by cover_opposite only. */
-#define COVER_DONE 0          /* a verdict is given, or an opposite is written */
+/* The field number of each answer: 0, or why there is no verdict, no opposite, no judgement or no model. Of several reasons that apply, 1, 2
+ * and 3 come first, in this order. Then the verdict gives 4, 5, 6 and the opposite 4, 5, 7, the first that applies; one course 10, and then
+ * 9. The reader goes through the file field by field instead, and gives 1, 2, 3 or 8 for the first fault. */
+#define COVER_DONE 0          /* a verdict or a judgement is given, an opposite is written, or a model is read */
 #define COVER_OUT_OF_RANGE 1  /* n is not 1 to 8, or k is not 1 to 16 */
-#define COVER_FEW_ARROWS 2    /* arrows has fewer than k numbers */
+#define COVER_FEW_ARROWS 2    /* arrows has fewer than k numbers; of the reader: has no room for k numbers */
 #define COVER_MISSING_STATE 3 /* a bit of start, home or one of the first k arrows names a state that is n or above */
 #define COVER_MORE_SETS 4     /* the model has more sets than room: the shortest of the three set slices, at most 256 */
 #define COVER_MORE_PROFILES 5 /* the model has more profiles than room: the shortest of the four profile slices, at most 2,048 */
 #define COVER_MORE_LETTERS 6  /* the model is not covered, and u and v together have more letters than the word memory has bytes */
 #define COVER_MORE_OPPOSITE 7 /* the opposite has more states than its flags have places, or more arrows than the shortest of their three
                                  slices has, or more than 65,535 of either */
+#define COVER_BAD_FILE 8      /* the file has not the form of a model file */
+#define COVER_NO_SUCH_EVENT 9 /* a letter of u or v is k or above */
+#define COVER_NO_ROUND 10     /* v is empty */
 
 /* CoverVerdict.verdict */
 #define COVER_NO_VERDICT 0 /* with every number but COVER_DONE */
@@ -116,6 +121,45 @@ CoverOpposite cover_opposite(
     uint16_t *to, size_t to_length, /* the state where it leads */
     /* written, a place for each state of the opposite, 1 if it is accepting, else 0; of more than COVER_STATES places no more are used */
     uint8_t *flags, size_t flags_length);
+
+/* CoverCourse.judgement */
+#define COVER_NO_JUDGEMENT 0 /* with every number but COVER_DONE */
+#define COVER_ACCEPTED 1     /* the model accepts the course */
+#define COVER_NOT_ACCEPTED 2 /* it does not */
+
+/* The judgement of one course. */
+typedef struct CoverCourse {
+  uint8_t number;    /* 0, 1, 2, 3, 9 or 10 */
+  uint8_t judgement;
+} CoverCourse;
+
+/* One course: does the model accept the beginning u and the round v? No memory is lent for it but what is read, and nothing is written. */
+CoverCourse cover_course(
+    size_t n, size_t k, uint8_t start, uint8_t home, const uint64_t *arrows, size_t arrows_length, /* the model, as for the verdict */
+    const uint8_t *u, size_t u_length,  /* read; a byte for each event, of any length, also none */
+    const uint8_t *v, size_t v_length); /* read; a byte for each event, of any length, at least one */
+
+/* A longest file of a model has so many bytes. The reader takes files of any length; what follows the end is refused. */
+#define COVER_FILE 211
+
+/* What was read of a file. Compare it field by field: there are unused bytes between the fields. */
+typedef struct CoverReading {
+  uint8_t number;
+  size_t offset; /* where the first byte of the faulty field is, or the first byte too many; 0 with COVER_DONE */
+  size_t n;      /* the model's numbers and masks, as the other calls take them; all 0 with every number but COVER_DONE */
+  size_t k;
+  uint8_t start;
+  uint8_t home;
+} CoverReading;
+
+/* Reads the model of a file: fields one behind the other, each a tag byte, the value's length in two bytes, low byte first, and the value.
+ * 01 n; 02 k; 03 start; 04 home, a byte each; then for each event a field 05 with the event and n masks, the p-th with the states to which
+ * it leads from p; then 7F 00 00 and nothing more. A model that was read is not refused by the other calls with 1, 2 or 3. */
+CoverReading cover_read(
+    const uint8_t *file, size_t file_length, /* read; any bytes, of any length */
+    /* written when all is right, k numbers, as the other calls take them: 16 places are always enough. Places past k are left as they were,
+     * and after a refusal all of them */
+    uint64_t *arrows, size_t arrows_length);
 
 #ifdef __cplusplus
 }

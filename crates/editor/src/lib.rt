@@ -2,9 +2,11 @@
 ghost use mathlib.Core.Path.{_≡_};
 ghost use Rattle.closing.specs.Memory.{setMemory, profileMemory};
 ghost use Rattle.opposite.specs.Memory.{oppositeMemory};
-ghost use Rattle.editor.specs.Editor.{inNumbers, Exports, oppositeNumbers, ExportsOpposite};
+ghost use Rattle.editor.specs.Editor.{inNumbers, Exports, oppositeNumbers, ExportsOpposite, courseNumbers, ExportsCourse, readingNumbers, ExportsReading};
+use course::Judgement;
 use cover::Answer;
 use model::Model;
+use model::Reading;
 
 // The verdict as a number; include/cover.h has the same.
 const NO_VERDICT: u8 = 0;
@@ -194,4 +196,98 @@ pub extern "C" fn cover_opposite(
         to,
         flags,
     ))
+}
+
+// The judgement as a number; include/cover.h has the same.
+const NO_JUDGEMENT: u8 = 0;
+
+const ACCEPTED: u8 = 1;
+
+const NOT_ACCEPTED: u8 = 2;
+
+// The judgement of one course as numbers; include/cover.h declares the same.
+#[repr(C)]
+pub struct CoverCourse {
+    pub number: u8,
+    pub judgement: u8,
+}
+
+// Each case of the judgement as numbers.
+fn plain_course(answer: Judgement) -> CoverCourse
+    ensures { λ r. ⌜ r ≡ courseNumbers answer ⌝ }
+{
+    match answer {
+        Judgement::Accepted => CoverCourse {
+            number: 0,
+            judgement: ACCEPTED,
+        },
+        Judgement::Rejected => CoverCourse {
+            number: 0,
+            judgement: NOT_ACCEPTED,
+        },
+        Judgement::Refused { number } => CoverCourse {
+            number,
+            judgement: NO_JUDGEMENT,
+        },
+    }
+}
+
+// One course, as `judge` judges it.
+#[no_mangle]
+pub extern "C" fn cover_course(
+    n: usize,
+    k: usize,
+    start: u8,
+    home: u8,
+    arrows: &[u64],
+    u: &[u8],
+    v: &[u8],
+) -> CoverCourse
+    ensures { λ r. ⌜ ExportsCourse (record { n = n; k = k; start = start; home = home }) (now (arrows .entry))
+        (now (u .entry)) (now (v .entry)) r ⌝ }
+{
+    plain_course(course::judge(Model { n, k, start, home }, arrows, u, v))
+}
+
+// What was read of a file, as numbers; include/cover.h declares the same.
+#[repr(C)]
+pub struct CoverReading {
+    pub number: u8,
+    pub offset: usize,
+    pub n: usize,
+    pub k: usize,
+    pub start: u8,
+    pub home: u8,
+}
+
+// Each case of a reading as numbers.
+fn plain_reading(answer: Reading) -> CoverReading
+    ensures { λ r. ⌜ r ≡ readingNumbers answer ⌝ }
+{
+    match answer {
+        Reading::Read { model } => CoverReading {
+            number: 0,
+            offset: 0,
+            n: model.n,
+            k: model.k,
+            start: model.start,
+            home: model.home,
+        },
+        Reading::Refused { number, offset } => CoverReading {
+            number,
+            offset,
+            n: 0,
+            k: 0,
+            start: 0,
+            home: 0,
+        },
+    }
+}
+
+// A model file, as `read` reads it.
+#[no_mangle]
+pub extern "C" fn cover_read(file: &[u8], arrows: &mut [u64]) -> CoverReading
+    ensures { λ r. ⌜ ExportsReading (now (file .entry)) (now (arrows .entry)) (now (arrows .exit)) r ⌝ }
+{
+    plain_reading(model::read(file, arrows))
 }
