@@ -1,6 +1,6 @@
 /* An editor's use of the check. The models that document 01 works by hand are checked and printed, each held against what the document says
- * of it; then one of our own, C at the edges of what is refused, C's tables in slices of different lengths, and opposites. Exits with 1 if
- * anything differs. */
+ * of it; then one of our own, C at the edges of what is refused, C's tables in slices of different lengths, and opposites; then C's file is
+ * opened, whole and with faults, and courses of C are tried. Exits with 1 if anything differs. */
 #include "../include/cover.h"
 #include <stdio.h>
 #include <string.h>
@@ -237,6 +237,84 @@ static int show_opposites(const Model *d, const Model *h) {
          show_room("one place too few for flags", 16, 16, 16, 5, COVER_MORE_OPPOSITE);
 }
 
+/* C's file, as document 01 lists it. */
+static const uint8_t file_of_c[] = {0x01, 1, 0, 2, 0x02, 1, 0, 2, 0x03, 1, 0, 1, 0x04, 1, 0, 2,
+                                    0x05, 3, 0, 0, 2, 2, 0x05, 3, 0, 1, 1, 1, 0x7F, 0, 0};
+
+/* Opens a file with room for so many of four arrow numbers, and says whether anything else is told than this, or a number that was not lent,
+ * or any after a refusal, is not as it was. */
+static int show_file(const char *what, const uint8_t *file, size_t bytes, size_t room, CoverReading want) {
+  uint64_t arrows[4] = {UNTOUCHED, UNTOUCHED, UNTOUCHED, UNTOUCHED};
+  CoverReading r = cover_read(file, bytes, arrows, room);
+  printf("%s: number %d, offset %zu, n %zu, k %zu, start %d, home %d, arrows", what, r.number, r.offset, r.n, r.k, r.start, r.home);
+  for (size_t i = 0; i < COUNT(arrows); i++)
+    printf(" %llu", (unsigned long long)arrows[i]);
+  printf("\n");
+  int differs = r.number != want.number || r.offset != want.offset || r.n != want.n || r.k != want.k || r.start != want.start || r.home != want.home;
+  for (size_t i = 0; i < COUNT(arrows); i++)
+    differs |= arrows[i] != (r.number == COVER_DONE && i < C.k ? C.arrows[i] : UNTOUCHED);
+  return differs;
+}
+
+static int show_files(void) {
+  const size_t all = sizeof file_of_c;
+  const CoverReading c = {COVER_DONE, 0, 2, 2, STATE(0), STATE(1)};
+  uint8_t nine[sizeof file_of_c], third[sizeof file_of_c], more[sizeof file_of_c + 1];
+  memcpy(nine, file_of_c, all);
+  memcpy(third, file_of_c, all);
+  memcpy(more, file_of_c, all);
+  nine[3] = 9;
+  third[20] = STATE(2);
+  more[all] = 0;
+  return show_file("C's file", file_of_c, all, 4, c) + show_file("C's file with just enough room", file_of_c, all, 2, c) +
+         show_file("C's file with room for 1 number", file_of_c, all, 1, (CoverReading){COVER_FEW_ARROWS, 4, 0, 0, 0, 0}) +
+         show_file("C's file with 9 states", nine, all, 4, (CoverReading){COVER_OUT_OF_RANGE, 0, 0, 0, 0, 0}) +
+         show_file("C's file with an arrow to a missing state", third, all, 4, (CoverReading){COVER_MISSING_STATE, 16, 0, 0, 0, 0}) +
+         show_file("C's file without its end", file_of_c, all - 3, 4, (CoverReading){COVER_BAD_FILE, all - 3, 0, 0, 0, 0}) +
+         show_file("C's file and a byte more", more, all + 1, 4, (CoverReading){COVER_BAD_FILE, all, 0, 0, 0, 0}) +
+         show_file("an empty file", file_of_c, 0, 4, (CoverReading){COVER_BAD_FILE, 0, 0, 0, 0, 0});
+}
+
+typedef struct {
+  const char *u_shown, *v_shown;
+  uint8_t u[3];
+  size_t u_letters;
+  uint8_t v[3];
+  size_t v_letters;
+  /* worked by hand: C is home after each 0 */
+  uint8_t number, judgement;
+} Tried;
+
+static const Tried tried_of_c[] = {
+    {"", " 0", {0}, 0, {0}, 1, COVER_DONE, COVER_ACCEPTED},
+    {"", " 1", {0}, 0, {1}, 1, COVER_DONE, COVER_NOT_ACCEPTED},
+    {" 0", " 1", {0}, 1, {1}, 1, COVER_DONE, COVER_NOT_ACCEPTED},
+    {" 1 1", " 1 1 0", {1, 1}, 2, {1, 1, 0}, 3, COVER_DONE, COVER_ACCEPTED},
+    {" 0", "", {0}, 1, {0}, 0, COVER_NO_ROUND, COVER_NO_JUDGEMENT},
+    {" 2", "", {2}, 1, {0}, 0, COVER_NO_ROUND, COVER_NO_JUDGEMENT},
+    {" 2", " 0", {2}, 1, {0}, 1, COVER_NO_SUCH_EVENT, COVER_NO_JUDGEMENT},
+    {"", " 0 2", {0}, 0, {0, 2}, 2, COVER_NO_SUCH_EVENT, COVER_NO_JUDGEMENT},
+};
+
+/* Tries a course of a model, prints the judgement, and says whether it is another than it should be. */
+static int show_course(const Model *m, const char *what, const Tried *t, uint8_t number, uint8_t judgement) {
+  CoverCourse r = cover_course(m->n, m->k, m->start, m->home, m->arrows, 2, t->u, t->u_letters, t->v, t->v_letters);
+  printf("%s, u%s, v%s: number %d, judgement %d\n", what, t->u_shown, t->v_shown, r.number, r.judgement);
+  return r.number != number || r.judgement != judgement;
+}
+
+static int show_courses(void) {
+  int faults = 0;
+  for (size_t i = 0; i < COUNT(tried_of_c); i++)
+    faults += show_course(&C, "C", &tried_of_c[i], tried_of_c[i].number, tried_of_c[i].judgement);
+  Model none = C, three = C;
+  none.n = 0;
+  three.k = 3;
+  /* what is refused of the model comes before what is refused of the course */
+  return faults + show_course(&none, "C without states", &tried_of_c[4], COVER_OUT_OF_RANGE, COVER_NO_JUDGEMENT) +
+         show_course(&three, "C with 3 events and 2 numbers of arrows", &tried_of_c[4], COVER_FEW_ARROWS, COVER_NO_JUDGEMENT);
+}
+
 int main(void) {
   int faults = 0;
   for (size_t i = 0; i < COUNT(before_c); i++)
@@ -250,6 +328,8 @@ int main(void) {
   faults += show(&C, 3);
   faults += show_tables();
   faults += show_opposites(&after_c[0], &after_c[4]);
+  faults += show_files();
+  faults += show_courses();
   if (faults > 0)
     fprintf(stderr, "editor: %d of these are not what they should be\n", faults);
   return faults > 0;

@@ -1,7 +1,8 @@
-//! What the C editor must print: the hand-worked models, one whose u and v differ, C at the edges of what is refused, C's tables, and
-//! opposites.
+//! What the C editor must print: the hand-worked models, one whose u and v differ, C at the edges of what is refused, C's tables, opposites,
+//! files and courses.
 
-use crate::course::letters;
+use crate::course::{accepts, letters};
+use crate::file::{bytes_of, read};
 use crate::model::{bit, hand_worked, named, Model, Verdict};
 use crate::opposite::Opposite;
 use crate::tables::{Entry, Tables, MOST_PROFILES, MOST_SETS};
@@ -9,6 +10,9 @@ use crate::tables::{Entry, Tables, MOST_PROFILES, MOST_SETS};
 const MOST_WORDS: usize = 2_304;
 /// What stands in C's slices before the call.
 const BEFORE: u64 = 9;
+/// What stands in the slice of arrows before a file is read, and how long it is.
+const UNTOUCHED: u64 = 77;
+const ARROWS: usize = 4;
 
 pub fn print() -> i32 {
     for row in hand_worked() {
@@ -26,6 +30,8 @@ pub fn print() -> i32 {
     println!("C: {}", verdict(&named("C")));
     print_tables(&named("C"));
     print_opposites();
+    print_files();
+    print_courses();
     0
 }
 
@@ -144,4 +150,71 @@ fn print_opposites() {
             what, number, sets, profiles, states, arrows
         );
     }
+}
+
+/// C's file whole and with faults, each with room for so many arrow numbers.
+fn print_files() {
+    let whole = bytes_of(&named("C"));
+    let (mut nine, mut third) = (whole.clone(), whole.clone());
+    nine[3] = 9;
+    third[20] = 4;
+    let cut = whole[..whole.len() - 3].to_vec();
+    let more = [&whole[..], &[0]].concat();
+    print_file("C's file", &whole, 4);
+    print_file("C's file with just enough room", &whole, 2);
+    print_file("C's file with room for 1 number", &whole, 1);
+    print_file("C's file with 9 states", &nine, 4);
+    print_file("C's file with an arrow to a missing state", &third, 4);
+    print_file("C's file without its end", &cut, 4);
+    print_file("C's file and a byte more", &more, 4);
+    print_file("an empty file", &[], 4);
+}
+
+fn print_file(what: &str, file: &[u8], room: usize) {
+    let mut places = [UNTOUCHED; ARROWS];
+    let numbers = match read(file, room) {
+        Err(fault) => [fault.number.into(), fault.offset, 0, 0, 0, 0],
+        Ok(model) => {
+            places[..model.k].copy_from_slice(&model.arrows);
+            let masks = [model.start.into(), model.home.into()];
+            [0, 0, model.n, model.k, masks[0], masks[1]]
+        }
+    };
+    let [number, offset, n, k, start, home] = numbers;
+    let arrows: String = places.iter().map(|x| format!(" {}", x)).collect();
+    println!("{what}: number {number}, offset {offset}, n {n}, k {k}, start {start}, home {home}, arrows{arrows}");
+}
+
+fn print_courses() {
+    let courses: [(&[u8], &[u8]); 8] = [
+        (&[], &[0]),
+        (&[], &[1]),
+        (&[0], &[1]),
+        (&[1, 1], &[1, 1, 0]),
+        (&[0], &[]),
+        (&[2], &[]),
+        (&[2], &[0]),
+        (&[], &[0, 2]),
+    ];
+    for (u, v) in courses {
+        print_course("C", named("C"), u, v);
+    }
+    let (u, v) = courses[4];
+    let few = "C with 3 events and 2 numbers of arrows";
+    print_course("C without states", Model { n: 0, ..named("C") }, u, v);
+    print_course(few, Model { k: 3, ..named("C") }, u, v);
+}
+
+/// The judgement is 0 for none, 1 for accepted, 2 for not accepted.
+fn print_course(what: &str, model: Model, u: &[u8], v: &[u8]) {
+    let unknown = |&letter: &u8| usize::from(letter) >= model.k;
+    let (number, judgement) = match model.refusal() {
+        0 if v.is_empty() => (10, 0),
+        0 if u.iter().chain(v).any(unknown) => (9, 0),
+        0 if accepts(&model.machine(), u, v) => (0, 1),
+        0 => (0, 2),
+        number => (number, 0),
+    };
+    let (u, v) = (letters(u), letters(v));
+    println!("{what}, u{u}, v{v}: number {number}, judgement {judgement}");
 }

@@ -2,7 +2,8 @@
 ghost use mathlib.Core.Path.{_≡_};
 ghost use Rattle.closing.specs.Memory.{setMemory, profileMemory};
 ghost use Rattle.opposite.specs.Memory.{oppositeMemory};
-ghost use Rattle.editor.specs.Editor.{inNumbers, Exports, oppositeNumbers, ExportsOpposite, courseNumbers, ExportsCourse, readingNumbers, ExportsReading};
+ghost use Rattle.editor.specs.Editor.{inNumbers, Exports, oppositeNumbers, ExportsOpposite};
+ghost use Rattle.editor.specs.Editor.{courseNumbers, ExportsCourse, readingNumbers, ExportsReading};
 use course::Judgement;
 use cover::Answer;
 use model::Model;
