@@ -1,87 +1,83 @@
-//! Times the library's closing, by running its program, against the straight look-up here, in one go; and then the opposites of two models
-//! near the limits, counted and written. The library's time has in it what its program does besides, filling and summing the memory; that of the
-//! straight look-up is closing alone.
+//! Times the library through its C interface and the straight look-up here, by one clock and in turns, with memory cleared before the clock
+//! starts. Closing alone is not in the C interface: these are verdicts whose search ends at the first pair, or models that are cut. Then
+//! the opposites of two models near the limits, with one place too few for arrows, which is closing and counting, and with enough.
 
-use crate::model::{Model, MOST_EVENTS};
-use crate::opposite::counted;
-use crate::opposite_runs::{at_the_limit, bench_runs, near_the_limits};
+use crate::asked::{opposite, verdict};
+use crate::driver::{ask, Question};
+use crate::facts::{Facts, FLAGS};
+use crate::model::{bit, Model};
+use crate::models::{at_the_limit, large, near_the_limits, plain};
+use crate::opposite::LIMIT;
+use crate::random::Random;
+use crate::rooms::Room;
 use crate::straight::Lent;
-use crate::tables::Tables;
-use crate::vectors::{closed_once, large, opposed_once};
-use std::io::Write;
-use std::process::{Command, Stdio};
-use std::time::{Duration, Instant};
+use crate::tables::{MOST_PROFILES, MOST_SETS};
+use std::time::Instant;
 
-const TIMES: usize = 20;
+const SEED: u64 = 13;
+const TURNS: usize = 5;
+/// So often is each timed in a turn.
+const TIMES: usize = 3;
+/// States and events of the models that are looked for.
+const SIZES: [(usize, usize); 5] = [(4, 3), (5, 4), (6, 6), (8, 9), (5, 16)];
 
-/// `program` is the command that runs the library's program on stored models.
-pub fn run(program: &[&str]) -> i32 {
-    for model in models() {
-        if let Err(fault) = compare(&model, program) {
+/// `runner` is the command that runs the driver.
+pub fn run(runner: &[&str]) -> i32 {
+    match timed(runner) {
+        Ok(()) => 0,
+        Err(fault) => {
             eprintln!("oracle: {}", fault);
-            return 1;
+            1
         }
+    }
+}
+
+fn timed(runner: &[&str]) -> Result<(), String> {
+    let random = &mut Random::new(SEED);
+    let mut models: Vec<Model> = SIZES.map(|(n, k)| found(random, n, k)).into();
+    models.extend(
+        large()
+            .into_iter()
+            .filter(|model| Lent::cleared().close(model).2),
+    );
+    for model in models {
+        compare(&model, runner)?;
     }
     let [at_the_limit, _] = at_the_limit();
     for model in [near_the_limits(), at_the_limit] {
-        if let Err(fault) = oppose(&model, program) {
-            eprintln!("oracle: {}", fault);
-            return 1;
-        }
+        oppose(&model, runner)?;
     }
-    0
-}
-
-/// Closing is part of both calls of the opposite, so its time is taken off them. A refusal with one place too few is counting alone.
-fn oppose(model: &Model, program: &[&str]) -> Result<(), String> {
-    let [written, refused] = bench_runs(model);
-    let closing = per_run(program, closed_once(model))?;
-    let counting = per_run(program, opposed_once(model, refused))?.saturating_sub(closing);
-    let all = per_run(program, opposed_once(model, written))?.saturating_sub(closing);
-    let tables = Tables::close(model, None, None);
-    let size = counted(&tables);
-    println!(
-        "n {} k {}: {} sets, {} profiles, opposite with {} states and {} arrows: closing {:.2} ms, counting {:.2} ms, writing {:.2} ms",
-        model.n,
-        model.k,
-        tables.sets.entries.len(),
-        tables.profiles.entries.len(),
-        size.states,
-        size.arrows,
-        closing.as_secs_f64() * 1e3,
-        counting.as_secs_f64() * 1e3,
-        all.saturating_sub(counting).as_secs_f64() * 1e3,
-    );
     Ok(())
 }
 
-/// The time that one more run of a stored case takes.
-fn per_run(program: &[&str], stored: (Vec<u8>, String)) -> Result<Duration, String> {
-    let once = theirs(&stored, program, 1)?;
-    let often = theirs(&stored, program, 1 + TIMES)?;
-    Ok(often.saturating_sub(once) / TIMES as u32)
-}
-
-/// The large models with more than 1,000 profiles, and the one with 2,048 again with its events repeated up to 16.
-fn models() -> Vec<Model> {
-    let mut models = large();
-    models.retain(|model| Tables::close(model, None, None).profiles.entries.len() > 1_000);
-    let mut busiest = models[1].clone();
-    let events = busiest.arrows.clone();
-    busiest.arrows = events.into_iter().cycle().take(MOST_EVENTS).collect();
-    busiest.k = MOST_EVENTS;
-    models.push(busiest);
-    models
-}
-
-fn compare(model: &Model, program: &[&str]) -> Result<(), String> {
-    let here = straight(model);
-    let library = per_run(program, closed_once(model))?;
-    let (sets, profiles, cut) = Lent::cleared().close(model);
-    let answer = format!("{} {} {} ", if cut { 5 } else { 0 }, sets, profiles);
-    if !closed_once(model).1.starts_with(&answer) {
-        return Err(format!("the straight look-up ends with {:?}", answer));
+/// A random model with more than 1,000 profiles, all within the limit, whose first pair rejects: event 0 leads every state to itself, and the
+/// start state is not home.
+fn found(random: &mut Random, n: usize, k: usize) -> Model {
+    loop {
+        let mut model = random.model_of(n, k);
+        model.start = 1;
+        model.home &= !1;
+        model.arrows[0] = (0..n).fold(0, |all, p| all | bit(p, p));
+        let (_, profiles, cut) = Lent::cleared().close(&model);
+        if !cut && profiles > 1_000 {
+            return model;
+        }
     }
+}
+
+fn compare(model: &Model, runner: &[&str]) -> Result<(), String> {
+    let given = plain(model.clone());
+    let facts = Facts::of(&given);
+    let (sets, profiles, cut) = Lent::cleared().close(model);
+    if (sets, profiles, cut) != (facts.sets(), facts.profiles(), facts.is_cut()) {
+        return Err(format!("the straight look-up has {} profiles", profiles));
+    }
+    let lengths = [vec![MOST_SETS; 3], vec![MOST_PROFILES; 4], vec![2_304]].concat();
+    let question = verdict(&given, &facts, &Room { lengths, seed: 0 });
+    if !cut && question.expected.fields[4..] != [0, 1] {
+        return Err("the first pair does not reject".to_string());
+    }
+    let (library, here) = in_turns(runner, question, || straight(model))?;
     println!(
         "n {} k {}: {} sets, {} profiles{}: library {:.2} ms, straight look-up in Rust {:.2} ms, ratio {:.2}",
         model.n,
@@ -89,45 +85,83 @@ fn compare(model: &Model, program: &[&str]) -> Result<(), String> {
         sets,
         profiles,
         if cut { ", cut" } else { "" },
-        library.as_secs_f64() * 1e3,
-        here.as_secs_f64() * 1e3,
-        library.as_secs_f64() / here.as_secs_f64(),
+        library,
+        here,
+        library / here,
     );
     Ok(())
 }
 
-/// The memory is cleared before the clock starts.
-fn straight(model: &Model) -> Duration {
-    let mut all = Duration::ZERO;
-    for _ in 0..TIMES {
-        let mut lent = Lent::cleared();
-        let began = Instant::now();
-        std::hint::black_box(lent.close(std::hint::black_box(model)));
-        all += began.elapsed();
+fn oppose(model: &Model, runner: &[&str]) -> Result<(), String> {
+    let given = plain(model.clone());
+    let facts = Facts::with_opposite(&given);
+    let size = facts.size().filter(|size| size.is_within_limits());
+    let size = size.ok_or("the opposite is above the limits")?;
+    let room = |arrows: usize| {
+        let mut lengths = [vec![MOST_SETS; 3], vec![MOST_PROFILES; 4], vec![LIMIT; 4]].concat();
+        lengths[FLAGS - 1] = arrows;
+        Room { lengths, seed: 0 }
+    };
+    let counted = opposite(&given, &facts, &room(size.arrows - 1));
+    let written = opposite(&given, &facts, &room(size.arrows));
+    let mut took = [Vec::new(), Vec::new()];
+    let questions = [often(counted), often(written)];
+    for _ in 0..TURNS {
+        for (question, took) in questions.iter().zip(&mut took) {
+            took.extend(once(runner, question)?);
+        }
     }
-    all / TIMES as u32
+    let [counted, written] = took.map(median);
+    println!(
+        "n {} k {}: {} sets, {} profiles, opposite with {} states and {} arrows: closing and counting {:.2} ms, all {:.2} ms, so writing {:.2} ms",
+        model.n,
+        model.k,
+        facts.sets(),
+        facts.profiles(),
+        size.states,
+        size.arrows,
+        counted,
+        written,
+        written - counted,
+    );
+    Ok(())
 }
 
-/// The time of the whole program on so many copies of a stored case; what it prints must be right.
-fn theirs(stored: &(Vec<u8>, String), program: &[&str], times: usize) -> Result<Duration, String> {
-    let (input, line) = (stored.0.repeat(times), &stored.1);
-    let began = Instant::now();
-    let mut child = Command::new(program[0])
-        .args(&program[1..])
-        .stdin(Stdio::piped())
-        .stdout(Stdio::piped())
-        .spawn()
-        .map_err(|fault| format!("{}: {}", program[0], fault))?;
-    let mut stdin = child.stdin.take().ok_or("no standard input")?;
-    stdin.write_all(&input).map_err(|fault| fault.to_string())?;
-    drop(stdin);
-    let output = child
-        .wait_with_output()
-        .map_err(|fault| fault.to_string())?;
-    let took = began.elapsed();
-    let expected = format!("{}\n", line).repeat(times);
-    if output.stdout != expected.as_bytes() {
-        return Err(format!("the library's program did not print {:?}", line));
+fn often(mut question: Question) -> Question {
+    question.case.times = TIMES;
+    question
+}
+
+/// The milliseconds of each call in one process; what comes back must be right.
+fn once(runner: &[&str], question: &Question) -> Result<Vec<f64>, String> {
+    let told = ask(runner, std::slice::from_ref(question))?;
+    let took = told.into_iter().flat_map(|told| told.took);
+    Ok(took.map(|nanoseconds| nanoseconds as f64 / 1e6).collect())
+}
+
+fn in_turns(
+    runner: &[&str],
+    question: Question,
+    other: impl Fn() -> f64,
+) -> Result<(f64, f64), String> {
+    let question = often(question);
+    let (mut library, mut here) = (Vec::new(), Vec::new());
+    for _ in 0..TURNS {
+        library.extend(once(runner, &question)?);
+        here.extend((0..TIMES).map(|_| other()));
     }
-    Ok(took)
+    Ok((median(library), median(here)))
+}
+
+fn median(mut took: Vec<f64>) -> f64 {
+    took.sort_by(f64::total_cmp);
+    took[took.len() / 2]
+}
+
+/// The memory is cleared before the clock starts.
+fn straight(model: &Model) -> f64 {
+    let mut lent = Lent::cleared();
+    let began = Instant::now();
+    std::hint::black_box(lent.close(std::hint::black_box(model)));
+    began.elapsed().as_secs_f64() * 1e3
 }

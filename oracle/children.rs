@@ -7,6 +7,12 @@ use std::thread;
 
 /// Whether the program ends well on this input, and what it prints.
 pub fn answer(program: &[&str], input: &[u8]) -> Done<(bool, String)> {
+    let (success, bytes) = output(program, input)?;
+    Ok((success, String::from_utf8_lossy(&bytes).into_owned()))
+}
+
+/// The same with what it gives back byte for byte.
+pub fn output(program: &[&str], input: &[u8]) -> Done<(bool, Vec<u8>)> {
     let mut child = Command::new(program[0])
         .args(&program[1..])
         .stdin(Stdio::piped())
@@ -18,10 +24,7 @@ pub fn answer(program: &[&str], input: &[u8]) -> Done<(bool, String)> {
         scope.spawn(move || stdin.write_all(input));
         child.wait_with_output()
     })?;
-    Ok((
-        output.status.success(),
-        String::from_utf8_lossy(&output.stdout).into_owned(),
-    ))
+    Ok((output.status.success(), output.stdout))
 }
 
 /// The work done for each item, in order, or the first fault. Every worker takes the next item that none has taken.

@@ -1,25 +1,32 @@
 //! A second opinion on models, by other means than the library it is compared with.
 
+mod asked;
 mod bench;
+mod cases;
 mod children;
 mod course;
+mod courses;
 mod damage;
+mod driver;
 mod editor;
+mod facts;
 mod file;
+mod library;
 mod long;
 mod machine;
 mod model;
+mod models;
 mod opposite;
-mod opposite_runs;
 mod paths;
 mod profile;
 mod program;
 mod random;
-mod readings;
+mod rooms;
 mod selftest;
 mod straight;
 mod tables;
 mod vectors;
+mod wide;
 
 use std::path::Path;
 
@@ -32,12 +39,12 @@ fn main() {
     std::process::exit(match words[..] {
         ["self-test"] => selftest::run(),
         ["editor"] => editor::print(),
-        ["bench", ref program @ ..] if !program.is_empty() => bench::run(program),
+        ["bench", ref runner @ ..] if !runner.is_empty() => bench::run(runner),
+        ["library", ref runner @ ..] if !runner.is_empty() => library::run(runner),
         ["vectors", folder] => vectors::write(Path::new(folder)),
-        ["readings", folder] => readings::write(Path::new(folder)),
         ["program", ref program @ ..] if !program.is_empty() => program::run(program),
-        ["long", seed, folder, ref runner @ ..] => match seed.parse() {
-            Ok(seed) => long::run(seed, folder, runner),
+        ["long", seed, program, driver, ref runner @ ..] => match seed.parse() {
+            Ok(seed) => long::run(seed, program, driver, runner),
             Err(_) => usage(),
         },
         _ => usage(),
@@ -46,8 +53,8 @@ fn main() {
 
 fn usage() -> i32 {
     eprintln!(
-        "usage: oracle self-test | editor | vectors FOLDER | readings FOLDER | bench PROGRAM... | program PROGRAM... \
-         | long SEED FOLDER RUNNER..."
+        "usage: oracle self-test | editor | vectors FOLDER | library RUNNER... | bench RUNNER... | program PROGRAM... \
+         | long SEED PROGRAM DRIVER RUNNER..., where RUNNER runs the driver, and in the last both files"
     );
     2
 }

@@ -2,8 +2,10 @@
 
 use crate::course::{accepts, show, Course};
 use crate::damage::File;
+use crate::facts::Facts;
 use crate::file::{bytes_of, read, Fault};
 use crate::model::{bit, hand_worked, named, show_arrows, Model, Verdict};
+use crate::models::plain;
 use crate::opposite::{counted, Opposite, Size};
 use crate::paths;
 use crate::profile::Profile;
@@ -11,6 +13,7 @@ use crate::program::printed;
 use crate::random::Random;
 use crate::straight::Lent;
 use crate::tables::{Entry, Table, Tables};
+use std::borrow::Cow;
 use std::collections::HashSet;
 use std::fmt::{self, Debug};
 use std::hash::Hash;
@@ -19,7 +22,7 @@ use std::panic::{catch_unwind, AssertUnwindSafe};
 type Outcome = Result<String, String>;
 type Property = fn() -> Outcome;
 
-const PROPERTIES: [(&str, Property); 12] = [
+const PROPERTIES: [(&str, Property); 13] = [
     ("known courses", known_courses),
     ("search against meaning", search_against_meaning),
     ("hand-worked models", hand_worked_models),
@@ -32,6 +35,7 @@ const PROPERTIES: [(&str, Property); 12] = [
     ("tables against paths", tables_against_paths),
     ("counts of the opposite", counts_of_opposite),
     ("straight look-up against hash maps", straight_look_up),
+    ("less room, the same beginning", less_room),
 ];
 
 pub fn run() -> i32 {
@@ -690,4 +694,37 @@ fn rows(tables: &Tables) -> Vec<Vec<u64>> {
     let of_profile =
         |entry: &Entry<Profile>| row(entry, vec![entry.value.arrows(), entry.value.marks()]);
     sets.map(of_set).chain(profiles.map(of_profile)).collect()
+}
+
+/// What must come back in a room is cut from whole tables; closing in that room must give the same.
+fn less_room() -> Outcome {
+    let mut random = Random::new(15);
+    let mut numbers = [0; 6];
+    for _ in 0..1_500 {
+        let model = random.model_up_to(5, 3);
+        let facts = Facts::of(&plain(model.clone()));
+        let (sets, profiles) = (
+            random.below(facts.sets() + 3),
+            random.below(facts.profiles() + 5),
+        );
+        let lengths = [vec![sets; 3], vec![profiles; 4]].concat();
+        let closed = facts.closed(&lengths);
+        let tables = Tables::close(&model, Some(sets), Some(profiles));
+        let place = format!("{}, rooms {} and {}", model, sets, profiles);
+        expect(&place, closed.number, tables.refusal())?;
+        let columns = facts.entered(&closed);
+        let row = |columns: &[Cow<[u64]>], i: usize| columns.iter().map(|c| c[i]).collect();
+        let mut got: Vec<Vec<u64>> = (0..closed.sets).map(|i| row(&columns[..3], i)).collect();
+        got.extend((0..closed.profiles).map(|i| row(&columns[3..], i)));
+        expect_list(&place, &got, &rows(&tables))?;
+        numbers[usize::from(closed.number)] += 1;
+    }
+    for number in [0, 4, 5] {
+        at_least(50, numbers[number], "rooms of each answer")?;
+    }
+    let [whole, _, _, _, few_sets, few_profiles] = numbers;
+    Ok(format!(
+        "{} models closed whole, {} with fewer sets, {} with fewer profiles",
+        whole, few_sets, few_profiles
+    ))
 }

@@ -139,9 +139,13 @@ impl Tables {
         if self.refusal() != 0 {
             return None;
         }
-        let first = self.rejecting_pairs().next();
+        Some(self.verdict_from(self.rejecting_pairs().next()))
+    }
+
+    /// The verdict when this is the first rejecting pair.
+    pub fn verdict_from(&self, first: Option<(usize, usize)>) -> Verdict {
         let course = first.map(|(set, profile)| (self.sets.word(set), self.profiles.word(profile)));
-        Some(course.map_or(Verdict::Covered, Verdict::Uncovered))
+        course.map_or(Verdict::Covered, Verdict::Uncovered)
     }
 }
 

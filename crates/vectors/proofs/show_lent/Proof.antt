@@ -1,4 +1,4 @@
--- What is lent is no longer than the slice, since `least` says so. Assumes nothing.
+-- What is lent is no longer than the slice, since it is the least of two numbers. Assumes nothing.
 use native.Mathlib.Omega.{arith}
 use lib.ListN.{length-take}
 use borrow.Author.Needs.{needs}

@@ -1,4 +1,4 @@
--- Seventeen numbers are read, the last of them at place 147, and storing one keeps the length. Assumes nothing.
+-- Seventeen numbers are stored, and storing one keeps the length. Assumes nothing.
 use borrow.Author.Needs.{needs}
 use Prim.Native.Nat.{_≤_, _-_}
 use mathlib.Core.Path.{_≡_}
@@ -7,16 +7,16 @@ use Rattle.vectors.proofs.show_stored.Statement.{statement}
 use Rattle.vectors.proofs.show_stored.Tie as tie
 
 abbrev Inv-loop : tie.InvT-loop
-Inv-loop stored m arrows₀ a₀ arrows a = (a ≤ 17) × (17 ≡ length arrows)
+Inv-loop head m arrows₀ a₀ arrows a = (a ≤ 17) × (17 ≡ length arrows)
 
 abbrev μ-loop : tie.MeasureT-loop
-μ-loop stored m arrows₀ a₀ arrows a = 17 - a
+μ-loop head m arrows₀ a₀ arrows a = 17 - a
 
-number-at-requires : tie.Need-number-at-requires Inv-loop μ-loop
-number-at-requires c κs = search needs
+read-number-requires : tie.Need-read-number-requires Inv-loop μ-loop
+read-number-requires c κs = search needs
 
-number-at-requires-2 : tie.Need-number-at-requires-2 Inv-loop μ-loop
-number-at-requires-2 c κs = search needs
+read-number-requires-2 : tie.Need-read-number-requires-2 Inv-loop μ-loop
+read-number-requires-2 c κs = search needs
 
 array-read-wide : tie.Need-array-read-wide Inv-loop μ-loop
 array-read-wide c = search needs
@@ -27,14 +27,8 @@ array-read-show-lent c = search needs
 loop-holds : tie.Need-loop-holds Inv-loop μ-loop
 loop-holds c = search needs
 
-mul-number-at : tie.Need-mul-number-at Inv-loop μ-loop
-mul-number-at c = search needs
-
-add-number-at : tie.Need-add-number-at Inv-loop μ-loop
-add-number-at c = search needs
-
-number-at-requires-3 : tie.Need-number-at-requires-3 Inv-loop μ-loop
-number-at-requires-3 c κs = search needs
+read-number-requires-3 : tie.Need-read-number-requires-3 Inv-loop μ-loop
+read-number-requires-3 c κs = search needs
 
 mul-arrows : tie.Need-mul-arrows Inv-loop μ-loop
 mul-arrows c = search needs
@@ -75,14 +69,12 @@ show-stored-spec =
     (tie.spec
     Inv-loop
     μ-loop
-    number-at-requires
-    number-at-requires-2
+    read-number-requires
+    read-number-requires-2
     array-read-wide
     array-read-show-lent
     loop-holds
-    mul-number-at
-    add-number-at
-    number-at-requires-3
+    read-number-requires-3
     mul-arrows
     array-write-arrows
     add-a
