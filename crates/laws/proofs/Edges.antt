@@ -1,11 +1,11 @@
 -- Document 01's edges and more of the same kind, computed of the definitions: every refusal but the file's, the rooms, lent memory, and
 -- the order of words. Assumes nothing.
 use Prim.Native.Nat.{ℕ, _^_}
-use mathlib.Core.Path.{_≡_, refl}
+use mathlib.Core.Path.{_≡_, refl, ap, _∙_}
 use mathlib.Core.Bool.{true, false}
 use mathlib.Core.List.{List, [], _∷_, _++_, map}
 use mathlib.Core.Option.{some}
-use lib.ListN.{length, replicate}
+use lib.ListN.{length, replicate, length-replicate}
 use Rattle.laws.specs.Words.{Word, before, power}
 use Rattle.laws.specs.Model.{Model, eight}
 use Rattle.laws.specs.Profiles.{uncovered}
@@ -15,6 +15,7 @@ use Rattle.laws.specs.Answers.{setSlices, profileSlices, oppositeSlices,
 use Rattle.laws.specs.Answers.{closingIn, verdictIn, oppositeIn, wordMemory}
 use Rattle.laws.specs.HandWorked.{_⇒_, event, mask, A, C, D}
 use Rattle.laws.proofs.Computed.{computed}
+use Rattle.laws.proofs.HandWorked.{set, profile, c-set-entries, c-profile-entries, c-flags, c-arrows, c-answers, c-answered}
 
 -- a model with these n, k and masks, and this slice of arrows
 given : ℕ → ℕ → ℕ → ℕ → List ℕ → Model
@@ -95,8 +96,8 @@ opposites m room-states room-arrows =
 -- C's opposite needs room for 6 states and 16 arrows
 c-opposites : opposites C 6 15 ∷ opposites C 5 16 ∷ opposites C 6 16 ∷ []
     ≡ (7 ∷ 0 ∷ 0 ∷ []) ∷ (7 ∷ 0 ∷ 0 ∷ []) ∷ (0 ∷ 6 ∷ 16 ∷ []) ∷ []
-unfolding computed opposites
-c-opposites = refl
+unfolding opposites c-answers c-flags c-arrows
+c-opposites = rw (c-answered 6 15, c-answered 5 16, c-answered 6 16)
 
 -- one course: 10 before 9, and 1, 2 and 3 before both
 courseNumber : Model → Word → Word → ℕ
@@ -128,6 +129,10 @@ powers = refl
 lent : ℕ → List ℕ
 lent size = replicate size 9
 
+lent-length : (size : ℕ) → length (lent size) ≡ size
+unfolding lent
+lent-length size = length-replicate size 9
+
 -- the room is the least of the slices, whichever that is, and the limit where all are longer
 set-rooms : map (setRoom eight)
     (record { masks = lent 3; from = lent 4; event = lent 5 }
@@ -136,8 +141,8 @@ set-rooms : map (setRoom eight)
     ∷ record { masks = lent 257; from = lent 300; event = lent 400 }
     ∷ [])
     ≡ 3 ∷ 3 ∷ 3 ∷ 256 ∷ []
-unfolding computed lent
-set-rooms = refl
+unfolding setRoom
+set-rooms = simp lent-length
 
 profile-rooms : map (profileRoom eight)
     (record { arrows = lent 3; marks = lent 4; from = lent 5; event = lent 6 }
@@ -147,8 +152,8 @@ profile-rooms : map (profileRoom eight)
     ∷ record { arrows = lent 2049; marks = lent 2050; from = lent 2051; event = lent 2052 }
     ∷ [])
     ≡ 3 ∷ 3 ∷ 3 ∷ 3 ∷ 2048 ∷ []
-unfolding computed lent
-profile-rooms = refl
+unfolding profileRoom
+profile-rooms = simp lent-length
 
 opposite-rooms : map arrowRoom
     (record { from = lent 3; event = lent 4; to = lent 5; flags = [] }
@@ -159,8 +164,8 @@ opposite-rooms : map arrowRoom
     ++ map stateRoom
     (record { from = []; event = []; to = []; flags = lent 7 } ∷ record { from = []; event = []; to = []; flags = lent 65536 } ∷ [])
     ≡ 3 ∷ 3 ∷ 3 ∷ 65535 ∷ 7 ∷ 65535 ∷ []
-unfolding computed lent
-opposite-rooms = refl
+unfolding arrowRoom stateRoom
+opposite-rooms = simp lent-length
 
 -- C's verdict in lent memory with four sets, five profiles and three bytes of room: what was written, and then what stood there
 lent-sets : SetSlices
@@ -173,6 +178,13 @@ lent-profiles = record { arrows = lent 5; marks = lent 5; from = lent 6; event =
 afterVerdict : VerdictAnswer → List ℕ → SetSlices × ProfileSlices × List ℕ
 afterVerdict answer memory = (setSlices (answer .sets) lent-sets, profileSlices (answer .profiles) lent-profiles, wordMemory answer memory)
 
+c-judged : VerdictAnswer
+c-judged = record { number = 0; sets = c-set-entries; profiles = c-profile-entries; verdict = some (uncovered [] (1 ∷ [])) }
+
+c-in-room : verdictIn eight C lent-sets lent-profiles (lent 3) ≡ c-judged
+unfolding computed lent lent-sets lent-profiles c-set-entries c-profile-entries set profile c-judged
+c-in-room = refl
+
 c-in-memory : afterVerdict (verdictIn eight C lent-sets lent-profiles (lent 3)) (lent 3)
     ≡ (
       record { masks = 1 ∷ 2 ∷ 9 ∷ 9 ∷ []; from = 65535 ∷ 0 ∷ 9 ∷ 9 ∷ []; event = 255 ∷ 0 ∷ 9 ∷ 9 ∷ 9 ∷ [] },
@@ -184,8 +196,8 @@ c-in-memory : afterVerdict (verdictIn eight C lent-sets lent-profiles (lent 3)) 
       },
       1 ∷ 9 ∷ 9 ∷ [],
     )
-unfolding computed lent lent-sets lent-profiles afterVerdict
-c-in-memory = refl
+unfolding computed lent lent-sets lent-profiles afterVerdict c-set-entries c-profile-entries set profile c-judged
+c-in-memory = ap (λ answer. afterVerdict answer (lent 3)) c-in-room ∙ refl
 
 -- D needs two bytes of word memory: with one, the tables are complete and the memory is untouched
 d-words : afterVerdict (verdictIn eight D lent-sets lent-profiles (lent 1)) (lent 1)

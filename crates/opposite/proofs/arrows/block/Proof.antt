@@ -3,13 +3,14 @@
 use Prim.Native.Nat.{_≤_, _-_}
 use native.Mathlib.Omega.{arith}
 use mathlib.Core.Path.{_∙_}
-use borrow.Author.Needs.{needs}
 use lib.ListN.{length}
 use Rattle.laws.specs.Model.{machine}
 use Rattle.model.specs.Asked.{asked}
 use Rattle.profile.specs.Values.{profile}
 use Rattle.opposite.specs.Tables.{profilesAt}
 use Rattle.opposite.specs.Memory.{arrowMemory}
+use Rattle.opposite.proofs.Turns.{one-less, below-same, bytes-fit, next-within, gate-small, gate-next-fits}
+use Rattle.opposite.proofs.Turns.{state-small, state-fits, number-fits}
 use Rattle.opposite.proofs.Rows.{next-profile, no-profile}
 use Rattle.opposite.proofs.Writing.{same-lengths}
 use Rattle.opposite.proofs.Leading.{StatesLeading, gate-room, states-begin, state-room, state-written, states-done}
@@ -28,7 +29,8 @@ abbrev μ-loop : tie.MeasureT-loop
 leads-on-requires : tie.Need-leads-on-requires Inv-loop μ-loop
 leads-on-requires c κs =
     let start = c .before .before .before .before .before .before .before .before .before in
-    (start .pre .0, (search needs, gate-room 8 _ _ _ _ _ (start .pre .1 .1)))
+    let sizes = start .pre .1 .0 in
+    (start .pre .0, ((sizes .0, sizes .1, gate-small _ _ (sizes .1)), gate-room 8 _ _ _ _ _ (start .pre .1 .1)))
 
 loop-holds : tie.Need-loop-holds Inv-loop μ-loop
 loop-holds c =
@@ -39,32 +41,53 @@ loop-holds c =
     )
 
 mul-t22 : tie.Need-mul-t22 Inv-loop μ-loop
-mul-t22 c = search needs
+mul-t22 c =
+    let entered = c .before .before .before .before .before .before .before .before in
+    let start = entered .before .before .before .before .before .before .before .before .before .before in
+    bytes-fit (c .loop-test .taken) (start .good .1 .1 .0 .1)
 
 shared-slice-read-t25 : tie.Need-shared-slice-read-t25 Inv-loop μ-loop
-shared-slice-read-t25 c = search needs
+shared-slice-read-t25 c = c .before .loop-test .taken
 
 mul-t26 : tie.Need-mul-t26 Inv-loop μ-loop
-mul-t26 c = search needs
+mul-t26 c =
+    let turn = c .before in
+    let entered = turn .before .before .before .before .before .before .before .before in
+    let start = entered .before .before .before .before .before .before .before .before .before .before in
+    bytes-fit (turn .loop-test .taken) (start .good .1 .1 .0 .1)
 
 shared-slice-read-t28 : tie.Need-shared-slice-read-t28 Inv-loop μ-loop
-shared-slice-read-t28 c = search needs
+shared-slice-read-t28 c =
+    let turn = c .before .before in
+    let entered = turn .before .before .before .before .before .before .before .before in
+    let start = entered .before .before .before .before .before .before .before .before .before .before in
+    below-same (turn .loop-test .taken) (start .pre .1 .0 .0)
 
 add-p : tie.Need-add-p Inv-loop μ-loop
-add-p c = search needs
+add-p c =
+    let turn = c .before .before in
+    let entered = turn .before .before .before .before .before .before .before .before in
+    let start = entered .before .before .before .before .before .before .before .before .before .before in
+    gate-next-fits _ _ (start .pre .1 .0 .1)
 
 add-p-2 : tie.Need-add-p-2 Inv-loop μ-loop
-add-p-2 c = search needs
+add-p-2 c =
+    let turn = c .before .before in
+    let entered = turn .before .before .before .before .before .before .before .before in
+    let start = entered .before .before .before .before .before .before .before .before .before .before in
+    state-fits _ _ (start .pre .1 .0 .1) (turn .loop-test .taken)
 
 leads-on-requires-2 : tie.Need-leads-on-requires-2 Inv-loop μ-loop
 leads-on-requires-2 c κs =
     let turn = c .before .before .before .before .before in
     let entered = turn .before .before .before .before .before .before .before .before in
-    let start = entered .before .before .before .before .before .before .before .before .before .before in (
+    let start = entered .before .before .before .before .before .before .before .before .before .before in
+    let sizes = start .pre .1 .0 in
+    let here = turn .loop-test .taken in (
       start .pre .0,
       (
-        search needs,
-        state-room 8 _ _ _ _ _ _ (turn .before .loop .inv .1) _ (next-profile _ _ _ (start .pre .1 .0 .0) (turn .loop-test .taken)),
+        (sizes .0, sizes .1, state-small _ _ (sizes .1) here),
+        state-room 8 _ _ _ _ _ _ (turn .before .loop .inv .1) _ (next-profile _ _ _ (sizes .0) here),
       ),
     )
 
@@ -73,19 +96,20 @@ add-i c =
     let turn = c .before .before .before .before .before .before .before .before .before .before .before .before in
     let entered = turn .before .before .before .before .before .before .before .before in
     let start = entered .before .before .before .before .before .before .before .before .before .before in
-    omega (arith, turn .loop-test .taken, start .pre .1 .0 .1)
+    number-fits _ _ (start .pre .1 .0 .1) (turn .loop-test .taken)
 
 loop-less : tie.Need-loop-less Inv-loop μ-loop
-loop-less c = search needs
+loop-less c = one-less (c .before .before .before .before .before .before .before .before .before .before .before .before .loop-test .taken)
 
 loop-again : tie.Need-loop-again Inv-loop μ-loop
 loop-again c =
     let called = c .before .before .before .before .before .before in
     let turn = called .before .before .before .before .before .before in
     let entered = turn .before .before .before .before .before .before .before .before in
-    let start = entered .before .before .before .before .before .before .before .before .before .before in (
-      search needs,
-      state-written 8 _ _ _ _ _ _ (turn .before .loop .inv .1) _ (next-profile _ _ _ (start .pre .1 .0 .0) (turn .loop-test .taken))
+    let start = entered .before .before .before .before .before .before .before .before .before .before in
+    let here = turn .loop-test .taken in (
+      next-within here,
+      state-written 8 _ _ _ _ _ _ (turn .before .loop .inv .1) _ (next-profile _ _ _ (start .pre .1 .0 .0) here)
           (called .leads-on2 .ensures),
     )
 

@@ -9,6 +9,7 @@ use Rattle.opposite.specs.Tables.{profilesAt, keepBy}
 use Rattle.opposite.specs.Memory.{arrowMemory}
 use Rattle.opposite.specs.Drawing.{setOn}
 use Rattle.opposite.proofs.Rows.{profile-within}
+use Rattle.opposite.proofs.Turns.{one-less, below-longer, event-small, event-fits, event-bytes-fit}
 use Rattle.opposite.proofs.Writing.{same-lengths}
 use Rattle.opposite.proofs.Leaving.{Leaving, leaving-begins, leaving-done, next-room, next-within}
 use Rattle.opposite.proofs.Leaving.{entries-room, event-left}
@@ -29,10 +30,15 @@ loop-holds : tie.Need-loop-holds Inv-loop μ-loop
 loop-holds c = leaving-begins _ _ _ _ _ _ (c .before .before .before .before .before .before .before .before .pre .1 .1 .1)
 
 mul-image : tie.Need-mul-image Inv-loop μ-loop
-mul-image c = search needs
+mul-image c =
+    let start = c .before .before .before .before .before .before .before .before .before .before .before in
+    event-bytes-fit (c .if1 .taken) (start .pre .0 .k-most)
 
 shared-slice-read-image : tie.Need-shared-slice-read-image Inv-loop μ-loop
-shared-slice-read-image c = search needs
+shared-slice-read-image c =
+    let turn = c .before in
+    let start = turn .before .before .before .before .before .before .before .before .before .before .before in
+    below-longer (turn .if1 .taken) (start .pre .0 .arrows-there)
 
 image-requires : tie.Need-image-requires Inv-loop μ-loop
 image-requires c κs = search needs
@@ -59,10 +65,16 @@ put-requires c κs =
     )
 
 mul-of-event : tie.Need-mul-of-event Inv-loop μ-loop
-mul-of-event c = search needs
+mul-of-event c =
+    let turn = c .before .before .before .before .before .before .before .before .before .before .before .before .before in
+    let start = turn .before .before .before .before .before .before .before .before .before .before .before in
+    event-bytes-fit (turn .if1 .taken) (start .pre .0 .k-most)
 
 shared-slice-read-of-event : tie.Need-shared-slice-read-of-event Inv-loop μ-loop
-shared-slice-read-of-event c = search needs
+shared-slice-read-of-event c =
+    let turn = c .before .before .before .before .before .before .before .before .before .before .before .before .before .before in
+    let start = turn .before .before .before .before .before .before .before .before .before .before .before in
+    below-longer (turn .if1 .taken) (start .pre .0 .arrows-there)
 
 of-event-requires : tie.Need-of-event-requires Inv-loop μ-loop
 of-event-requires c κs = search needs
@@ -88,7 +100,7 @@ into-blocks-requires c κs =
         pre .0 .1,
         profile-within _ _ (pre .0 .0) _ (told .place-of-profile .ensures),
         pre .0 .2,
-        omega (arith, turn .if1 .taken, u .k-most),
+        event-small (turn .if1 .taken) (u .k-most),
         pre .0 .3,
       ),
       (
@@ -104,13 +116,13 @@ add-a c =
     let found = told .before .before .before .before .before .before .before .before .before .before .before .before .before in
     let turn = found .before .before .before in
     let start = turn .before .before .before .before .before .before .before .before .before .before .before in
-    omega (arith, turn .if1 .taken, start .pre .0 .k-most)
+    event-fits (turn .if1 .taken) (start .pre .0 .k-most)
 
 loop-less : tie.Need-loop-less Inv-loop μ-loop
 loop-less c =
     let told = c .before .before .before .before .before .before .before .before .before .before in
     let found = told .before .before .before .before .before .before .before .before .before .before .before .before .before in
-    omega (arith, found .before .before .before .if1 .taken)
+    one-less (found .before .before .before .if1 .taken)
 
 loop-again : tie.Need-loop-again Inv-loop μ-loop
 loop-again c =

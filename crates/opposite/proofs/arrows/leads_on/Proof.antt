@@ -8,6 +8,7 @@ use Rattle.profile.specs.Values.{profile, before as beforeOf}
 use Rattle.opposite.specs.Tables.{profilesAt}
 use Rattle.opposite.specs.Memory.{arrowMemory}
 use Rattle.opposite.specs.Drawing.{leadsOn}
+use Rattle.opposite.proofs.Turns.{one-less, below-longer, next-within, event-small, event-fits, event-bytes-fit}
 use Rattle.opposite.proofs.Writing.{Writing, begin, room-next, write-next, left-as, all-written, same-lengths}
 use Rattle.opposite.proofs.Leading.{read-on, leadsFrom, leads-first, leads-next, leads-last}
 use Rattle.opposite.proofs.arrows.leads_on.Statement.{statement}
@@ -29,10 +30,12 @@ loop-holds c =
     (omega arith, left-as (begin (start .pre .1 .1)) (leads-first 8 _ _ _ _ _ _ _))
 
 mul-of-event : tie.Need-mul-of-event Inv-loop μ-loop
-mul-of-event c = search needs
+mul-of-event c = event-bytes-fit (c .if1 .taken) (c .before .before .before .before .before .before .before .before .before .pre .0 .k-most)
 
 shared-slice-read-of-event : tie.Need-shared-slice-read-of-event Inv-loop μ-loop
-shared-slice-read-of-event c = search needs
+shared-slice-read-of-event c =
+    let turn = c .before in
+    below-longer (turn .if1 .taken) (turn .before .before .before .before .before .before .before .before .before .pre .0 .arrows-there)
 
 of-event-requires : tie.Need-of-event-requires Inv-loop μ-loop
 of-event-requires c κs = search needs
@@ -44,29 +47,37 @@ onto-requires : tie.Need-onto-requires Inv-loop μ-loop
 onto-requires c κs =
     let made = c .before .before .before in
     let turn = made .before .before .before in
-    let start = turn .before .before .before .before .before .before .before .before .before in (
-      search needs,
+    let start = turn .before .before .before .before .before .before .before .before .before in
+    let sizes = start .pre .1 .0 in
+    let here = turn .if1 .taken in (
+      (sizes .0, sizes .1, sizes .2, event-small here (start .pre .0 .k-most)),
       room-next (turn .before .before .loop .inv .1) _ _
-          (leads-next 8 _ _ _ _ _ _ _ _ (turn .if1 .taken) _
-          (read-on _ (start .pre .0) _ (turn .if1 .taken) (start .args .x) (made .before .of-event .ensures) (made .next .ensures))),
+          (leads-next 8 _ _ _ _ _ _ _ _ here _
+          (read-on _ (start .pre .0) _ here (start .args .x) (made .before .of-event .ensures) (made .next .ensures))),
     )
 
 add-a : tie.Need-add-a Inv-loop μ-loop
-add-a c = search needs
+add-a c =
+    let turn = c .before .before .before .before .before .before .before .before .before .before .before .before .before in
+    let start = turn .before .before .before .before .before .before .before .before .before in
+    event-fits (turn .if1 .taken) (start .pre .0 .k-most)
 
 loop-less : tie.Need-loop-less Inv-loop μ-loop
-loop-less c = search needs
+loop-less c =
+    let turn = c .before .before .before .before .before .before .before .before .before .before .before .before .before in
+    one-less (turn .if1 .taken)
 
 loop-again : tie.Need-loop-again Inv-loop μ-loop
 loop-again c =
     let called = c .before .before .before .before .before .before in
     let made = called .before .before .before .before in
     let turn = made .before .before .before in
-    let start = turn .before .before .before .before .before .before .before .before .before in (
-      search needs,
+    let start = turn .before .before .before .before .before .before .before .before .before in
+    let here = turn .if1 .taken in (
+      next-within here,
       write-next (turn .before .before .loop .inv .1) _ _
-          (leads-next 8 _ _ _ _ _ _ _ _ (turn .if1 .taken) _
-          (read-on _ (start .pre .0) _ (turn .if1 .taken) (start .args .x) (made .before .of-event .ensures) (made .next .ensures)))
+          (leads-next 8 _ _ _ _ _ _ _ _ here _
+          (read-on _ (start .pre .0) _ here (start .args .x) (made .before .of-event .ensures) (made .next .ensures)))
           (called .onto .ensures),
     )
 

@@ -1,6 +1,6 @@
 -- The place of y gives the number of its state; the one arrow or the two are put one behind the other.
 use native.Mathlib.Omega.{arith}
-use mathlib.Core.Path.{refl}
+use mathlib.Core.Path.{refl, _∙_}
 use mathlib.Core.List.{[]}
 use borrow.Author.Needs.{needs}
 use Rattle.opposite.proofs.Rows.{profile-within}
@@ -48,13 +48,19 @@ put-requires-2 c κs =
     )
 
 same-length : tie.Need-same-length
-same-length c = search needs
+same-length c =
+    let first = c .before .before .before .before .before .before .before .before .before .before in
+    c .before .before .before .before .before .from2 .given ∙ first .before .before .before .before .before .from .given
 
 same-length-2 : tie.Need-same-length-2
-same-length-2 c = search needs
+same-length-2 c =
+    let first = c .before .before .before .before .before .before .before .before .before .before in
+    c .before .before .before .event2 .given ∙ first .before .before .before .event .given
 
 same-length-3 : tie.Need-same-length-3
-same-length-3 c = search needs
+same-length-3 c =
+    let first = c .before .before .before .before .before .before .before .before .before .before in
+    c .before .to2 .given ∙ first .before .to .given
 
 returns : tie.Need-returns
 returns c =
@@ -80,13 +86,13 @@ put-requires-3 c κs =
     )
 
 same-length-4 : tie.Need-same-length-4
-same-length-4 c = search needs
+same-length-4 c = c .before .before .before .before .before .from3 .given
 
 same-length-5 : tie.Need-same-length-5
-same-length-5 c = search needs
+same-length-5 c = c .before .before .before .event3 .given
 
 same-length-6 : tie.Need-same-length-6
-same-length-6 c = search needs
+same-length-6 c = c .before .to3 .given
 
 returns-2 : tie.Need-returns-2
 returns-2 c =

@@ -1,13 +1,12 @@
 -- Each turn writes the arrows of one set. The loop keeps that those of the sets from number i on are what is left to write.
 use Prim.Native.Nat.{_-_}
-use native.Mathlib.Omega.{arith}
 use lib.ListN.{length}
-use borrow.Author.Needs.{needs}
 use Rattle.laws.specs.Model.{machine}
 use Rattle.model.specs.Asked.{asked}
 use Rattle.opposite.specs.Tables.{profilesAt, keepBy}
 use Rattle.opposite.specs.Memory.{arrowMemory}
 use Rattle.opposite.specs.Drawing.{setsFrom}
+use Rattle.opposite.proofs.Turns.{one-less, next-fits, number-small}
 use Rattle.opposite.proofs.Writing.{begin, same-lengths}
 use Rattle.opposite.proofs.Leaving.{SetsLeaving, set-room, set-left, sets-done}
 use Rattle.opposite.proofs.arrows.sets.Statement.{statement}
@@ -26,24 +25,28 @@ loop-holds : tie.Need-loop-holds Inv-loop μ-loop
 loop-holds c = begin (c .before .before .before .before .before .before .before .before .pre .1 .1 .1)
 
 shared-slice-read-from-set : tie.Need-shared-slice-read-from-set Inv-loop μ-loop
-shared-slice-read-from-set c = search needs
+shared-slice-read-from-set c = c .before .loop-test .taken
 
 from-set-requires : tie.Need-from-set-requires Inv-loop μ-loop
 from-set-requires c κs =
     let turn = c .before .before .before .before in
-    let pre = turn .before .before .before .before .before .before .before .before .before .before .pre in (
+    let pre = turn .before .before .before .before .before .before .before .before .before .before .pre in
+    let sizes = pre .1 .0 in (
       pre .0,
       (
-        omega (arith, turn .loop-test .taken, pre .1 .0),
+        (sizes .0, sizes .1, number-small _ _ (sizes .2) (turn .loop-test .taken), sizes .2),
         (pre .1 .1 .0, set-room _ _ _ _ (turn .before .loop .inv) (turn .loop-test .taken)),
       ),
     )
 
 add-i : tie.Need-add-i Inv-loop μ-loop
-add-i c = search needs
+add-i c =
+    let turn = c .before .before .before .before .before .before .before .before .before .before .before in
+    let start = turn .before .before .before .before .before .before .before .before .before .before in
+    next-fits (turn .loop-test .taken) (start .good .1 .1 .0 .0)
 
 loop-less : tie.Need-loop-less Inv-loop μ-loop
-loop-less c = search needs
+loop-less c = one-less (c .before .before .before .before .before .before .before .before .before .before .before .loop-test .taken)
 
 loop-again : tie.Need-loop-again Inv-loop μ-loop
 loop-again c =

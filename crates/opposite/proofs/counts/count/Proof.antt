@@ -7,11 +7,14 @@ use mathlib.Core.Path.{_≡_, refl, sym, ap}
 use mathlib.Core.List.{List}
 use borrow.Author.Needs.{needs}
 use lib.ListN.{length}
+use mir.Syntax.{w64}
+use mir.Val.{Fits}
 use Rattle.laws.specs.Bits.{count}
 use Rattle.laws.specs.Model.{Machine, machine}
 use Rattle.laws.specs.Opposite.{rejectsNonEmpty, secondCount}
 use Rattle.model.specs.Asked.{asked}
 use Rattle.opposite.specs.Tables.{profilesAt}
+use Rattle.opposite.proofs.Turns.{one-less, below-same, next-fits, bytes-fit, length-fits}
 use Rattle.opposite.proofs.Rows.{profileAt, next-profile, no-profile, profiles-length}
 use Rattle.opposite.proofs.Adding.{few-profiles}
 use Rattle.opposite.proofs.Sizes.{Sized, size-begins, size-passes, size-grows, size-room, too-many-states, too-many-lines, all-fit}
@@ -23,8 +26,8 @@ abbrev Few : List ℕ → List ℕ → List ℕ → Type 0
 Few Ps arrows marks = (length marks ≡ length arrows) × (length arrows ≤ 2048) × (length Ps ≤ 256)
 
 -- the arrows from sets to sets are few
-from-sets : {sets k : ℕ} → k ≤ 16 → sets ≤ 256 → sets * k ≤ 4096
-from-sets {k = k} l h = omega (arith, mul-le-mul-right k h)
+from-sets-fit : (sets k : ℕ) → k ≤ 16 → sets ≤ 256 → Fits w64 (sets * k)
+from-sets-fit sets k l h = omega (arith, mul-le-mul-right k h)
 
 module _ (M : Machine ℕ) (k : ℕ) (Ps arrows marks : List ℕ) {blocks states lines j : ℕ}
     (so : Sized 8 M k Ps (profilesAt arrows marks) blocks states lines j) (few : Few Ps arrows marks) (here : j < length arrows) {pairs : ℕ}
@@ -42,13 +45,35 @@ module _ (M : Machine ℕ) (k : ℕ) (Ps arrows marks : List ℕ) {blocks states
         let size = ap (λ n. n + 1) (sym (profiles-length arrows marks (few .0))) in
         size-grows 8 M k Ps (profilesAt arrows marks) so _ (next-profile arrows marks j (few .0) here) are some size e
 
-    -- and its numbers are small
-    small : k ≤ 16
-        → (blocks + 1 ≤ 2048)
-        × (states + (length arrows + 1) ≤ 4196608)
-        × (lines + (k * pairs + (length arrows + 1) * k) + secondCount 8 M k (profilesAt arrows marks) (profileAt arrows marks j)
-        ≤ 142675968)
-    small l = size-room 8 M k Ps (profilesAt arrows marks) (entered refl) l (few-profiles arrows marks (few .0) (few .1)) (few .2)
+    -- and its numbers are small, so that they fit
+    module _ (l : k ≤ 16) where
+      small : (blocks + 1 ≤ 2048)
+          × (states + (length arrows + 1) ≤ 4196608)
+          × (lines + (k * pairs + (length arrows + 1) * k) + secondCount 8 M k (profilesAt arrows marks) (profileAt arrows marks j)
+          ≤ 142675968)
+      small = size-room 8 M k Ps (profilesAt arrows marks) (entered refl) l (few-profiles arrows marks (few .0) (few .1)) (few .2)
+
+      blocks-fit : Fits w64 (blocks + 1)
+      blocks-fit = omega (arith, small)
+
+      states-fit : Fits w64 (states + (length arrows + 1))
+      states-fit = omega (arith, small)
+
+      from-set-fits : Fits w64 (k * pairs)
+      from-set-fits = omega (arith, small)
+
+      first-fits : Fits w64 ((length arrows + 1) * k)
+      first-fits = omega (arith, small)
+
+      more-fits : Fits w64 (k * pairs + (length arrows + 1) * k)
+      more-fits = omega (arith, small)
+
+      lines-fit : Fits w64 (lines + (k * pairs + (length arrows + 1) * k))
+      lines-fit = omega (arith, small)
+
+      all-lines-fit : {seconds : ℕ} → seconds ≡ secondCount 8 M k (profilesAt arrows marks) (profileAt arrows marks j)
+          → Fits w64 (lines + (k * pairs + (length arrows + 1) * k) + seconds)
+      all-lines-fit e = omega (arith, small)
 
 abbrev Inv-loop : tie.InvT-loop
 Inv-loop m lent masks arrows marks state-room arrow-room size blocks₀ states₀ lines₀ j₀ blocks states lines j =
@@ -58,36 +83,42 @@ abbrev μ-loop : tie.MeasureT-loop
 μ-loop m lent masks arrows marks state-room arrow-room size blocks₀ states₀ lines₀ j₀ blocks states lines j = length arrows - j
 
 add-size : tie.Need-add-size Inv-loop μ-loop
-add-size c = search needs
+add-size c = length-fits _ (c .before .before .before .before .good .1 .1 .1 .0 .1)
 
 mul-lines : tie.Need-mul-lines Inv-loop μ-loop
 mul-lines c =
     let start = c .before .before .before .before .before in
-    omega (arith, from-sets (start .pre .0 .k-most) (start .pre .1 .0 .2))
+    from-sets-fit _ _ (start .pre .0 .k-most) (start .pre .1 .0 .2)
 
 loop-holds : tie.Need-loop-holds Inv-loop μ-loop
 loop-holds c = size-begins 8 _ _ _ _
 
 mul-t16 : tie.Need-mul-t16 Inv-loop μ-loop
-mul-t16 c = search needs
+mul-t16 c = bytes-fit (c .loop-test .taken) (c .before .before .before .before .before .before .before .good .1 .1 .1 .0 .1)
 
 shared-slice-read-t19 : tie.Need-shared-slice-read-t19 Inv-loop μ-loop
-shared-slice-read-t19 c = search needs
+shared-slice-read-t19 c = c .before .loop-test .taken
 
 mul-t20 : tie.Need-mul-t20 Inv-loop μ-loop
-mul-t20 c = search needs
+mul-t20 c = bytes-fit (c .before .loop-test .taken) (c .before .before .before .before .before .before .before .before .good .1 .1 .1 .0 .1)
 
 shared-slice-read-t22 : tie.Need-shared-slice-read-t22 Inv-loop μ-loop
-shared-slice-read-t22 c = search needs
+shared-slice-read-t22 c =
+    let turn = c .before .before in
+    let start = turn .before .before .before .before .before .before .before in
+    below-same (turn .loop-test .taken) (start .pre .1 .0 .0)
 
 pairs-of-requires : tie.Need-pairs-of-requires Inv-loop μ-loop
 pairs-of-requires c κs = search needs
 
 add-j : tie.Need-add-j Inv-loop μ-loop
-add-j c = search needs
+add-j c =
+    let turn = c .before .before .before .before in
+    let start = turn .before .before .before .before .before .before .before in
+    next-fits (turn .loop-test .taken) (start .good .1 .1 .1 .0 .0)
 
 loop-less : tie.Need-loop-less Inv-loop μ-loop
-loop-less c = search needs
+loop-less c = one-less (c .before .before .before .before .loop-test .taken)
 
 loop-again : tie.Need-loop-again Inv-loop μ-loop
 loop-again c =
@@ -99,65 +130,47 @@ add-blocks : tie.Need-add-blocks Inv-loop μ-loop
 add-blocks c =
     let turn = c .before .before .before .before in
     let start = turn .before .before .before .before .before .before .before in
-    omega (
-      arith,
-      small _ _ _ _ _ (turn .before .loop .inv) (start .pre .1 .0) (turn .loop-test .taken) (c .before .pairs-of .ensures)
-          (c .if1 .left) (start .pre .0 .k-most),
-    )
+    blocks-fit _ _ _ _ _ (turn .before .loop .inv) (start .pre .1 .0) (turn .loop-test .taken) (c .before .pairs-of .ensures)
+    (c .if1 .left) (start .pre .0 .k-most)
 
 add-states : tie.Need-add-states Inv-loop μ-loop
 add-states c =
     let turn = c .before .before .before .before in
     let start = turn .before .before .before .before .before .before .before in
-    omega (
-      arith,
-      small _ _ _ _ _ (turn .before .loop .inv) (start .pre .1 .0) (turn .loop-test .taken) (c .before .pairs-of .ensures)
-          (c .if1 .left) (start .pre .0 .k-most),
-    )
+    states-fit _ _ _ _ _ (turn .before .loop .inv) (start .pre .1 .0) (turn .loop-test .taken) (c .before .pairs-of .ensures)
+    (c .if1 .left) (start .pre .0 .k-most)
 
 mul-lines-2 : tie.Need-mul-lines-2 Inv-loop μ-loop
 mul-lines-2 c =
     let else = c .before in
     let turn = else .before .before .before .before in
     let start = turn .before .before .before .before .before .before .before in
-    omega (
-      arith,
-      small _ _ _ _ _ (turn .before .loop .inv) (start .pre .1 .0) (turn .loop-test .taken) (else .before .pairs-of .ensures)
-          (else .if1 .left) (start .pre .0 .k-most),
-    )
+    from-set-fits _ _ _ _ _ (turn .before .loop .inv) (start .pre .1 .0) (turn .loop-test .taken) (else .before .pairs-of .ensures)
+    (else .if1 .left) (start .pre .0 .k-most)
 
 mul-lines-3 : tie.Need-mul-lines-3 Inv-loop μ-loop
 mul-lines-3 c =
     let else = c .before .before in
     let turn = else .before .before .before .before in
     let start = turn .before .before .before .before .before .before .before in
-    omega (
-      arith,
-      small _ _ _ _ _ (turn .before .loop .inv) (start .pre .1 .0) (turn .loop-test .taken) (else .before .pairs-of .ensures)
-          (else .if1 .left) (start .pre .0 .k-most),
-    )
+    first-fits _ _ _ _ _ (turn .before .loop .inv) (start .pre .1 .0) (turn .loop-test .taken) (else .before .pairs-of .ensures)
+    (else .if1 .left) (start .pre .0 .k-most)
 
 add-lines : tie.Need-add-lines Inv-loop μ-loop
 add-lines c =
     let else = c .before .before in
     let turn = else .before .before .before .before in
     let start = turn .before .before .before .before .before .before .before in
-    omega (
-      arith,
-      small _ _ _ _ _ (turn .before .loop .inv) (start .pre .1 .0) (turn .loop-test .taken) (else .before .pairs-of .ensures)
-          (else .if1 .left) (start .pre .0 .k-most),
-    )
+    more-fits _ _ _ _ _ (turn .before .loop .inv) (start .pre .1 .0) (turn .loop-test .taken) (else .before .pairs-of .ensures)
+    (else .if1 .left) (start .pre .0 .k-most)
 
 add-lines-2 : tie.Need-add-lines-2 Inv-loop μ-loop
 add-lines-2 c =
     let else = c .before .before in
     let turn = else .before .before .before .before in
     let start = turn .before .before .before .before .before .before .before in
-    omega (
-      arith,
-      small _ _ _ _ _ (turn .before .loop .inv) (start .pre .1 .0) (turn .loop-test .taken) (else .before .pairs-of .ensures)
-          (else .if1 .left) (start .pre .0 .k-most),
-    )
+    lines-fit _ _ _ _ _ (turn .before .loop .inv) (start .pre .1 .0) (turn .loop-test .taken) (else .before .pairs-of .ensures)
+    (else .if1 .left) (start .pre .0 .k-most)
 
 no-fit-requires : tie.Need-no-fit-requires Inv-loop μ-loop
 no-fit-requires c κs = search needs
@@ -184,7 +197,10 @@ returns-2 c =
     too-many-lines 8 _ _ _ _ grown (c .no-fit2 .ensures) (c .before .if3 .taken) (omega arith)
 
 seconds-of-requires : tie.Need-seconds-of-requires Inv-loop μ-loop
-seconds-of-requires c κs = search needs
+seconds-of-requires c κs =
+    let turn = c .before .before .before .before .before .before .before .before in
+    let pre = turn .before .before .before .before .before .before .before .pre in
+    (pre .0, (pre .1 .0 .0, pre .1 .0 .1))
 
 loop-again-2 : tie.Need-loop-again-2 Inv-loop μ-loop
 loop-again-2 c =
@@ -199,18 +215,17 @@ add-lines-3 c =
     let else = c .before .before .before .before .before in
     let turn = else .before .before .before .before in
     let start = turn .before .before .before .before .before .before .before in
-    omega (
-      arith,
-      c .seconds-of .ensures,
-      small _ _ _ _ _ (turn .before .loop .inv) (start .pre .1 .0) (turn .loop-test .taken)
-          (else .before .pairs-of .ensures) (else .if1 .left) (start .pre .0 .k-most),
-    )
+    all-lines-fit _ _ _ _ _ (turn .before .loop .inv) (start .pre .1 .0) (turn .loop-test .taken) (else .before .pairs-of .ensures)
+    (else .if1 .left) (start .pre .0 .k-most) (c .seconds-of .ensures)
 
 add-j-2 : tie.Need-add-j-2 Inv-loop μ-loop
-add-j-2 c = search needs
+add-j-2 c =
+    let turn = c .before .before .before .before .before .before .before .before .before in
+    let start = turn .before .before .before .before .before .before .before in
+    next-fits (turn .loop-test .taken) (start .good .1 .1 .1 .0 .0)
 
 loop-less-2 : tie.Need-loop-less-2 Inv-loop μ-loop
-loop-less-2 c = search needs
+loop-less-2 c = one-less (c .before .before .before .before .before .before .before .before .before .loop-test .taken)
 
 no-fit-requires-3 : tie.Need-no-fit-requires-3 Inv-loop μ-loop
 no-fit-requires-3 c κs = search needs

@@ -1,5 +1,6 @@
 -- Both rooms are those of the slices, so that what is counted says whether the opposite fits them. It is written only if it does.
 use native.Mathlib.Omega.{arith}
+use mathlib.Core.Path.{refl}
 use borrow.Author.Needs.{needs}
 use Rattle.laws.specs.Answers.{stateRoom, arrowRoom}
 use Rattle.opposite.proofs.Whole.{fitting, written, unwritten}
@@ -32,16 +33,16 @@ write-all-requires c κs =
     (pre .0, (pre .1 .0, fits))
 
 same-length : tie.Need-same-length
-same-length c = search needs
+same-length c = c .before .before .before .before .before .before .before .from .given
 
 same-length-2 : tie.Need-same-length-2
-same-length-2 c = search needs
+same-length-2 c = c .before .before .before .before .before .event .given
 
 same-length-3 : tie.Need-same-length-3
-same-length-3 c = search needs
+same-length-3 c = c .before .before .before .to .given
 
 same-length-4 : tie.Need-same-length-4
-same-length-4 c = search needs
+same-length-4 c = c .before .flags .given
 
 returns : tie.Need-returns
 unfolding stateRoom
@@ -53,13 +54,13 @@ returns c =
     (c .before .before .before .before .before .before .before .before .write-all .ensures)
 
 same-length-5 : tie.Need-same-length-5
-same-length-5 c = search needs
+same-length-5 c = refl
 
 same-length-6 : tie.Need-same-length-6
-same-length-6 c = search needs
+same-length-6 c = refl
 
 same-length-7 : tie.Need-same-length-7
-same-length-7 c = search needs
+same-length-7 c = refl
 
 returns-2 : tie.Need-returns-2
 unfolding stateRoom

@@ -92,13 +92,22 @@ write-requires c κs =
     flags-room s
 
 same-length : tie.Need-same-length
-same-length c = search needs
+same-length c =
+    let first = c .before .before .before .before .before .before .before .before .before .before .before in
+    c .before .before .before .before .before .before .before .before .before .from2 .given
+    ∙ first .before .before .before .before .before .before .before .before .before .from .given
 
 same-length-2 : tie.Need-same-length-2
-same-length-2 c = search needs
+same-length-2 c =
+    let first = c .before .before .before .before .before .before .before .before .before .before .before in
+    c .before .before .before .before .before .before .before .event2 .given
+    ∙ first .before .before .before .before .before .before .before .event .given
 
 same-length-3 : tie.Need-same-length-3
-same-length-3 c = search needs
+same-length-3 c =
+    let first = c .before .before .before .before .before .before .before .before .before .before .before in
+    c .before .before .before .before .before .to2 .given
+    ∙ first .before .before .before .before .before .to .given
 
 same-length-4 : tie.Need-same-length-4
 same-length-4 c = search needs
