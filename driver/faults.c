@@ -76,6 +76,7 @@ CoverVerdict __wrap_cover_verdict(MODEL_TAKEN, TABLES_TAKEN, WORDS_TAKEN) {
   PLANT(26, profile_from_length > 65536, profile_from[65536] = 1) /* verdict, more than 65,536 places: the last one written */
   PLANT(27, a.number == 5 && a.profiles == 2048, a.number = 0) /* verdict, cut at 2,048 profiles: told as done */
   PLANT(28, a.number == 3, a.sets = 1) /* verdict, refused with 3: a set told */
+  PLANT(30, a.number == 5 && memory_length == 0, a.number = 6) /* verdict, refused with 5 and no word memory: told as 6 */
   return a;
 }
 
@@ -98,6 +99,7 @@ CoverOpposite __wrap_cover_opposite(MODEL_TAKEN, TABLES_TAKEN, OPPOSITE_TAKEN) {
   PLANT(44, a.sets > 0, set_event[a.sets - 1] ^= 1) /* opposite: the last set's event changed */
   PLANT(45, from_length == 0, from[-1] ^= 1) /* opposite, no place for arrows: the guard before it changed */
   PLANT(46, a.profiles > 0, profile_marks[0] ^= 1) /* opposite: the first profile's marks changed */
+  PLANT(48, a.number == 5 && a.profiles == 2048, a.number = 0) /* opposite, cut at 2,048 profiles: told as done */
   return a;
 }
 

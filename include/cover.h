@@ -41,7 +41,8 @@ extern "C" {
 
 /* The field number of each answer: 0, or why there is no verdict, no opposite, no judgement or no model. Of several reasons that apply, 1, 2
  * and 3 come first, in this order. Then the verdict gives 4, 5, 6 and the opposite 4, 5, 7, the first that applies; one course 10, and then
- * 9. The reader goes through the file field by field instead, and gives 1, 2, 3 or 8 for the first fault. */
+ * 9. The reader goes through the file field by field instead, and gives 1, 2, 3 or 8 for the first fault: within a field its form (8) comes
+ * before its value (1 or 3), and 2 is given at the field of k, behind 1, with offset 4. */
 #define COVER_DONE 0          /* a verdict or a judgement is given, an opposite is written, or a model is read */
 #define COVER_OUT_OF_RANGE 1  /* n is not 1 to 8, or k is not 1 to 16 */
 #define COVER_FEW_ARROWS 2    /* arrows has fewer than k numbers; of the reader: has no room for k numbers */
@@ -139,13 +140,16 @@ CoverCourse cover_course(
     const uint8_t *u, size_t u_length,  /* read; a byte for each event, of any length, also none */
     const uint8_t *v, size_t v_length); /* read; a byte for each event, of any length, at least one */
 
-/* A longest file of a model has so many bytes. The reader takes files of any length; what follows the end is refused. */
+/* A longest file of a model has so many bytes, and so many arrow numbers are read at most. The reader takes files of any length; what follows
+ * the end is refused. */
 #define COVER_FILE 211
+#define COVER_EVENTS 16
 
 /* What was read of a file. Compare it field by field: there are unused bytes between the fields. */
 typedef struct CoverReading {
   uint8_t number;
-  size_t offset; /* where the first byte of the faulty field is, or the first byte too many; 0 with COVER_DONE */
+  size_t offset; /* where the first byte of the faulty field is, at the file's end where it is missing, or the first byte too many; 0 also
+                    with COVER_DONE */
   size_t n;      /* the model's numbers and masks, as the other calls take them; all 0 with every number but COVER_DONE */
   size_t k;
   uint8_t start;
@@ -154,11 +158,12 @@ typedef struct CoverReading {
 
 /* Reads the model of a file: fields one behind the other, each a tag byte, the value's length in two bytes, low byte first, and the value.
  * 01 n; 02 k; 03 start; 04 home, a byte each; then for each event a field 05 with the event and n masks, the p-th with the states to which
- * it leads from p; then 7F 00 00 and nothing more. A model that was read is not refused by the other calls with 1, 2 or 3. */
+ * it leads from p; then 7F 00 00 and nothing more. A model that was read, with its k arrow numbers, is not refused by the other calls with
+ * 1, 2 or 3. */
 CoverReading cover_read(
     const uint8_t *file, size_t file_length, /* read; any bytes, of any length */
-    /* written when all is right, k numbers, as the other calls take them: 16 places are always enough. Places past k are left as they were,
-     * and after a refusal all of them */
+    /* written when all is right, k numbers, as the other calls take them; COVER_EVENTS places are always enough. Places past k are left as
+     * they were, and after a refusal all of them */
     uint64_t *arrows, size_t arrows_length);
 
 #ifdef __cplusplus

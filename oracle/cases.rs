@@ -23,10 +23,13 @@ pub enum Work {
     Files(Vec<Reading>),
 }
 
-type Group = (&'static str, fn() -> Vec<Work>);
+pub type Group = (&'static str, fn() -> Vec<Work>);
 
 /// How many files one process is asked about.
 const FILES_AT_ONCE: usize = 100;
+
+/// So many of the first groups are quickly done.
+pub const SMALL_GROUPS: usize = 9;
 
 pub const GROUPS: [Group; 25] = [
     ("courses, small models and rings", small_courses),
@@ -114,9 +117,11 @@ fn damaged_models(seed: u64, count: usize) -> Vec<Given> {
     without_many((0..count).map(&mut one).collect())
 }
 
+/// The last two have more profiles than the limit.
 fn at_limits() -> Vec<Given> {
     let mut models = at_the_limit().to_vec();
     models.push(near_the_limits());
+    models.extend(large().into_iter().skip(2).take(2));
     plainly(models)
 }
 

@@ -1,7 +1,7 @@
 //! Runs the library through its C interface on all cases, and holds every answer and every place of all memory against what is found here.
 
 use crate::asked::{course, lendings, opposite, reading, verdict, Reading};
-use crate::cases::{Work, GROUPS};
+use crate::cases::{Group, Work, GROUPS, SMALL_GROUPS};
 use crate::children::each;
 use crate::course::Course;
 use crate::driver::{ask, Call, Question, Told};
@@ -24,8 +24,25 @@ pub type Tally = BTreeMap<String, usize>;
 
 /// `runner` is the command that runs the driver.
 pub fn run(runner: &[&str]) -> i32 {
+    match all_told(runner, &GROUPS) {
+        None => 1,
+        Some(all) => {
+            assert_wide(&all);
+            println!("{} cases: {}", all.len(), shown(&tallied(&all)));
+            0
+        }
+    }
+}
+
+/// The first groups alone, with every call among them.
+pub fn run_small(runner: &[&str]) -> i32 {
+    i32::from(all_told(runner, &GROUPS[..SMALL_GROUPS]).is_none())
+}
+
+/// All that came back, or none where something was wrong, which is then printed.
+fn all_told(runner: &[&str], groups: &[Group]) -> Option<Vec<Told>> {
     let mut all = Vec::new();
-    for (name, works) in GROUPS {
+    for (name, works) in groups {
         match each(&works(), |work| answered(runner, work)) {
             Ok(told) => {
                 let told: Vec<Told> = told.into_iter().flatten().collect();
@@ -34,13 +51,11 @@ pub fn run(runner: &[&str]) -> i32 {
             }
             Err(fault) => {
                 println!("FAILED {}: {}", name, fault);
-                return 1;
+                return None;
             }
         }
     }
-    assert_wide(&all);
-    println!("{} cases: {}", all.len(), shown(&tallied(&all)));
-    0
+    Some(all)
 }
 
 pub fn tallied(told: &[Told]) -> Tally {

@@ -49,9 +49,9 @@ fn compared(seed: u64, program: &[&str], driver: &[&str]) -> Result<String, Stri
     let damaged = damaged_files(random);
     let wrong: Vec<Given> = (0..WRONG).map(|_| wrong(random)).collect();
 
-    read(driver, "whole files", &around_k(&models))?;
+    let mut tallies = vec![read(driver, "whole files", &around_k(&models))?];
     for (name, files) in &damaged {
-        read(driver, name, &with_any_room(random, files))?;
+        tallies.push(read(driver, name, &with_any_room(random, files))?);
     }
     let whole: Vec<File> = models.iter().map(bytes_of).collect();
     checked(program, "whole files", &whole)?;
@@ -59,11 +59,9 @@ fn compared(seed: u64, program: &[&str], driver: &[&str]) -> Result<String, Stri
         checked(program, name, files)?;
     }
     let sound: Vec<Given> = models.into_iter().map(plain).collect();
-    let mut tally = run_through(driver, "models", random, &sound)?;
-    for (answer, count) in run_through(driver, "wrong models", random, &wrong)? {
-        *tally.entry(answer).or_default() += count;
-    }
-    assert_wide(&tally);
+    tallies.push(run_through(driver, "models", random, &sound)?);
+    tallies.push(run_through(driver, "wrong models", random, &wrong)?);
+    assert_wide(&together(tallies));
     let files: usize = damaged.iter().map(|(_, files)| files.len()).sum();
     Ok(format!(
         "{} models and {} damaged files compared in the program and in the library, {} wrong models in the library,",
@@ -89,12 +87,14 @@ fn assert_wide(tally: &Tally) {
         "opposite written",
         "course accepted",
         "course not accepted",
+        "file read",
     ];
     let answers = done.map(String::from).into_iter();
     let answers = answers
         .chain(refused("verdict", &[1, 2, 3, 4, 5, 6]))
         .chain(refused("opposite", &[1, 2, 3, 4, 5, 7]))
-        .chain(refused("course", &[1, 2, 3, 9, 10]));
+        .chain(refused("course", &[1, 2, 3, 9, 10]))
+        .chain(refused("file", &[1, 2, 3, 8]));
     for answer in answers {
         assert!(tally.contains_key(&answer), "no {}", answer);
     }
@@ -201,7 +201,7 @@ fn with_any_room(random: &mut Random, files: &[File]) -> Vec<Reading> {
     files.iter().flat_map(&mut each).collect()
 }
 
-fn read(driver: &[&str], name: &str, readings: &[Reading]) -> Result<(), String> {
+fn read(driver: &[&str], name: &str, readings: &[Reading]) -> Result<Tally, String> {
     let parts: Vec<&[Reading]> = readings.chunks(FILES_AT_ONCE).collect();
     let told = each(&parts, |part| {
         let numbered = part.iter().zip(0..);
@@ -211,7 +211,7 @@ fn read(driver: &[&str], name: &str, readings: &[Reading]) -> Result<(), String>
     let tallies = told.map_err(|fault| format!("the library's reader, {}: {}", name, fault))?;
     let tally = together(tallies);
     ok("the library's reader", name, readings.len(), &tally);
-    Ok(())
+    Ok(tally)
 }
 
 fn together(tallies: Vec<Tally>) -> Tally {
@@ -262,7 +262,7 @@ fn questions<'a>(random: &mut Random, given: &Given, facts: &'a Facts) -> Vec<Qu
         .iter()
         .map(|room| verdict(given, facts, room))
         .collect();
-    if facts.refusal() != 0 || facts.size().is_some() {
+    if facts.refusal() != 0 || facts.is_cut() || facts.size().is_some() {
         let rooms = opposite_rooms(random, facts);
         questions.extend(rooms.iter().map(|room| opposite(given, facts, room)));
     }

@@ -40,6 +40,7 @@ fn main() {
         ["self-test"] => selftest::run(),
         ["editor"] => editor::print(),
         ["bench", ref runner @ ..] if !runner.is_empty() => bench::run(runner),
+        ["library", "--small", ref runner @ ..] if !runner.is_empty() => library::run_small(runner),
         ["library", ref runner @ ..] if !runner.is_empty() => library::run(runner),
         ["vectors", folder] => vectors::write(Path::new(folder)),
         ["program", ref program @ ..] if !program.is_empty() => program::run(program),
@@ -53,7 +54,7 @@ fn main() {
 
 fn usage() -> i32 {
     eprintln!(
-        "usage: oracle self-test | editor | vectors FOLDER | library RUNNER... | bench RUNNER... | program PROGRAM... \
+        "usage: oracle self-test | editor | vectors FOLDER | library [--small] RUNNER... | bench RUNNER... | program PROGRAM... \
          | long SEED PROGRAM DRIVER RUNNER..., where RUNNER runs the driver, and in the last both files"
     );
     2

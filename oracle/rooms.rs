@@ -68,26 +68,30 @@ impl Needs {
         rooms.map(with).into()
     }
 
-    /// All of different lengths, the shortest of each group just enough, or one too short in the group that is named.
-    fn different(&self, short: Option<usize>, turn: usize) -> Vec<usize> {
+    /// All of different lengths, the shortest of each group just enough, or one too short in the groups that are named.
+    fn different(&self, short: Range<usize>, turn: usize) -> Vec<usize> {
         let mut lengths = self.need.clone();
         for (number, group) in self.groups.iter().enumerate() {
             for slice in group.clone() {
                 lengths[slice] += (slice + turn) % group.len();
-                let missing = usize::from(short == Some(number));
+                let missing = usize::from(short.contains(&number));
                 lengths[slice] = lengths[slice].saturating_sub(missing);
             }
         }
         lengths
     }
 
+    /// No group too short, each alone, and each with all behind it, so that it is seen which refusal comes first.
     fn turned(&self) -> Vec<Vec<usize>> {
-        let groups = (0..self.groups.len()).map(Some);
-        let short = groups.chain([None]);
-        short
-            .flat_map(|short| (0..4).map(move |turn| (short, turn)))
-            .map(|(short, turn)| self.different(short, turn))
-            .collect()
+        let all = self.groups.len();
+        let mut short = vec![0..0];
+        short.extend((0..all).map(|group| group..group + 1));
+        short.extend((0..all - 1).map(|group| group..all));
+        let turned = |short: &Range<usize>| {
+            let turns = (0..4).map(|turn| self.different(short.clone(), turn));
+            turns.collect::<Vec<Vec<usize>>>()
+        };
+        short.iter().flat_map(turned).collect()
     }
 
     fn all(&self) -> Vec<Vec<usize>> {
@@ -161,8 +165,8 @@ pub fn for_opposite(facts: &Facts) -> Vec<Room> {
     seeded(needs.all())
 }
 
-/// A large opposite: all slices together, each of its own slices one too short, and where that is not too much also with no place and just
-/// enough; and one set, one profile, one arrow and one state too few with all of different lengths.
+/// A large opposite: all slices together; each of its own slices alone one too short, and where that is not too much in other rooms too; and
+/// all of different lengths, just enough, and with one set, one profile, one arrow, one state too few, and one of each from the profiles on.
 pub fn for_long_opposite(facts: &Facts, one_too_short_only: bool) -> Vec<Room> {
     let needs = opposite_needs(facts);
     let mut lengths = needs.together();
@@ -171,7 +175,7 @@ pub fn for_long_opposite(facts: &Facts, one_too_short_only: bool) -> Vec<Room> {
         let rooms = if one_too_short_only { 2..3 } else { 0..5 };
         lengths.extend_from_slice(&alone[rooms]);
     }
-    lengths.extend((0..4).map(|group| needs.different(Some(group), group)));
-    lengths.push(needs.different(None, 1));
+    lengths.extend((0..4).map(|group| needs.different(group..group + 1, group)));
+    lengths.extend([needs.different(0..0, 1), needs.different(1..4, 2)]);
     seeded(lengths)
 }

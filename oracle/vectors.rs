@@ -23,28 +23,24 @@ struct Case {
 
 enum Asked {
     Verdict,
-    Courses(Vec<Course>),
+    Course(Course),
     Opposite,
 }
 
-/// A slice of the memory: how many places, what stands in each before the call, and how many bits each has.
-type Slice = (usize, u64, u32);
-
 const MOST_ARROWS: usize = 17;
-const TABLES: [Slice; 7] = [
-    (MOST_SETS, 9, 8),
-    (MOST_SETS, 65_535, 16),
-    (MOST_SETS, 9, 8),
-    (MOST_PROFILES, 9, 64),
-    (MOST_PROFILES, 9, 64),
-    (MOST_PROFILES, 65_535, 16),
-    (MOST_PROFILES, 9, 8),
+/// Enough for the tables of every model, as far as the limits go.
+const TABLES: [usize; 7] = [
+    MOST_SETS,
+    MOST_SETS,
+    MOST_SETS,
+    MOST_PROFILES,
+    MOST_PROFILES,
+    MOST_PROFILES,
+    MOST_PROFILES,
 ];
-const WORDS: [Slice; 1] = [(2_304, 9, 8)];
-const OPPOSITE: [Slice; 4] = [(LIMIT, 9, 16), (LIMIT, 9, 8), (LIMIT, 9, 16), (LIMIT, 9, 8)];
-/// What is printed of a course that is judged, beside the numbers of refusals.
-const ACCEPTED: u8 = 101;
-const REJECTED: u8 = 102;
+const WORDS: usize = 2_304;
+/// What stands in every place before a call.
+const BEFORE: u64 = 9;
 const SEED: u64 = 4;
 
 /// Writes the cases to `stdin` and what the library must print of them to `stdout`.
@@ -72,7 +68,7 @@ fn stored(case: &Case) -> Vec<u8> {
     let Given { n, k, model } = &case.given;
     let asked = match case.asked {
         Asked::Verdict => 0,
-        Asked::Courses(_) => 1,
+        Asked::Course(_) => 1,
         Asked::Opposite => 2,
     };
     let mut bytes = vec![model.start, model.home, model.arrows.len() as u8, asked];
@@ -82,12 +78,11 @@ fn stored(case: &Case) -> Vec<u8> {
         let arrows = model.arrows.get(event).copied().unwrap_or(0);
         bytes.extend(arrows.to_le_bytes());
     }
-    if let Asked::Courses(courses) = &case.asked {
-        bytes.push(courses.len() as u8);
-        for (u, v) in courses {
-            bytes.extend([u.len() as u8, v.len() as u8]);
-            bytes.extend(u.iter().chain(v));
-        }
+    if let Asked::Course((u, v)) = &case.asked {
+        bytes.extend([u.len() as u8, (u.len() + v.len()) as u8]);
+        let mut letters = [&u[..], v].concat();
+        letters.resize(2 * MOST_LETTERS, 0);
+        bytes.extend(letters);
     }
     bytes
 }
@@ -95,9 +90,13 @@ fn stored(case: &Case) -> Vec<u8> {
 fn printed(case: &Case) -> String {
     match &case.asked {
         Asked::Verdict => verdict_line(&Facts::of(&case.given)),
-        Asked::Courses(courses) => {
-            let each = courses.iter().map(|(u, v)| answer(&case.given, u, v));
-            spaced(each.map(u64::from))
+        Asked::Course((u, v)) => {
+            let (number, judgement) = match judged(&case.given, u, v) {
+                Ok(true) => (0, 1),
+                Ok(false) => (0, 2),
+                Err(number) => (number, 0),
+            };
+            format!("{} {}", number, judgement)
         }
         Asked::Opposite => opposite_line(&Facts::with_opposite(&case.given)),
     }
@@ -105,58 +104,31 @@ fn printed(case: &Case) -> String {
 
 /// The verdict is printed behind the counts of the tables.
 fn verdict_line(facts: &Facts) -> String {
-    let slices = [&TABLES[..], &WORDS].concat();
-    let mut expected = facts.verdict(&lengths(&slices));
+    let mut expected = facts.verdict(&[&TABLES[..], &[WORDS]].concat());
     expected.fields[1..4].rotate_left(1);
-    line(&slices, &expected)
+    line(&[WORDS], &expected)
 }
 
-/// The tables are summed with the verdict, and here the four slices of the opposite.
 fn opposite_line(facts: &Facts) -> String {
-    let slices = [&TABLES[..], &OPPOSITE].concat();
-    let mut expected = facts.opposite(&lengths(&slices));
-    expected.begins.drain(..TABLES.len());
-    line(&OPPOSITE, &expected)
+    let own = [LIMIT; 4];
+    line(&own, &facts.opposite(&[&TABLES[..], &own].concat()))
 }
 
-fn lengths(slices: &[Slice]) -> Vec<usize> {
-    slices.iter().map(|&(length, _, _)| length).collect()
-}
-
-/// The answer, and a sum of it and of these slices.
-fn line(slices: &[Slice], expected: &Expected) -> String {
-    let mut sum = expected.fields.iter().fold(0, |sum, &x| mix(sum, x));
-    for (&(length, before, width), begins) in slices.iter().zip(&expected.begins) {
-        let add = if width == 64 { mix } else { mix_part };
-        let past = std::iter::repeat(&before).take(length - begins.len());
-        sum = begins.iter().chain(past).fold(sum, |sum, &x| add(sum, x));
+/// The answer, and a sum of the slices behind the tables, which are so long.
+fn line(lengths: &[usize], expected: &Expected) -> String {
+    let mut sum = 0;
+    for (length, begins) in lengths.iter().zip(&expected.begins[TABLES.len()..]) {
+        let past = std::iter::repeat(&BEFORE).take(length - begins.len());
+        sum = begins.iter().chain(past).fold(sum, |sum, &x| mix(sum, x));
     }
-    let fields = expected.fields.iter().copied();
-    spaced(fields.chain([sum]))
-}
-
-fn spaced(numbers: impl Iterator<Item = u64>) -> String {
+    let numbers = expected.fields.iter().chain([&sum]);
     let words: Vec<String> = numbers.map(|x| x.to_string()).collect();
     words.join(" ")
 }
 
 /// Sixteen bits go into the sum.
-fn mix_part(sum: u64, x: u64) -> u64 {
-    (sum * 65_599 + (x & 0xFFFF)) % 4_294_967_291
-}
-
-/// Sixteen bits at a time, the highest first.
 fn mix(sum: u64, x: u64) -> u64 {
-    let parts = [x >> 48, x >> 32, x >> 16, x];
-    parts.into_iter().fold(sum, mix_part)
-}
-
-fn answer(given: &Given, u: &[u8], v: &[u8]) -> u8 {
-    match judged(given, u, v) {
-        Ok(true) => ACCEPTED,
-        Ok(false) => REJECTED,
-        Err(number) => number,
-    }
+    (sum * 65_599 + (x & 0xFFFF)) % 4_294_967_291
 }
 
 /// Every number that can come with memory of full size, both verdicts and both judgements, words of 50 letters, 256 sets, 2,047 profiles and
@@ -168,23 +140,24 @@ fn assert_wide(cases: &[Case], lines: &[String]) {
             .collect()
     };
     let (mut verdicts, mut opposites) = (vec![], vec![]);
-    let mut answers: Vec<u64> = vec![];
+    let mut courses = vec![];
     for (case, told) in cases.iter().zip(lines.iter().map(words)) {
         let told: Vec<u64> = told;
         match case.asked {
             Asked::Verdict => verdicts.push(told),
-            Asked::Courses(_) => answers.extend(told),
+            Asked::Course(_) => courses.push(told),
             Asked::Opposite => opposites.push(told),
         }
     }
     for number in [0, 1, 2, 3, 5] {
         assert!(verdicts.iter().any(|told| told[0] == number));
     }
-    for number in [0, 1, 2, 3, 7] {
+    for number in [0, 1, 2, 3, 5, 7] {
         assert!(opposites.iter().any(|told| told[0] == number));
     }
-    for answer in [1, 2, 3, 9, 10, ACCEPTED.into(), REJECTED.into()] {
-        assert!(answers.contains(&answer));
+    let refused = [1, 2, 3, 9, 10].map(|number| vec![number, 0]);
+    for told in refused.into_iter().chain([vec![0, 1], vec![0, 2]]) {
+        assert!(courses.contains(&told));
     }
     assert!(verdicts.iter().any(|told| told[3] == 1 && told[1] > 8));
     assert!(verdicts.iter().any(|told| told[4] == 50 && told[5] == 50));
@@ -229,42 +202,45 @@ fn verdicts(random: &mut Random) -> Vec<Case> {
     all.into_iter().map(asked).collect()
 }
 
-/// All short courses of the small models, courses that go round often, what is refused, and random models with words of every length.
+/// Some short courses of the small models, courses that go round often, some at every edge, and random models with words of many lengths.
 fn courses(random: &mut Random) -> Vec<Case> {
-    let small = small().into_iter().map(plain);
-    let mut all: Vec<Case> = small
-        .map(|given| judging(given.clone(), short_courses(given.model.k)))
-        .collect();
-    all.extend(rings().into_iter().map(|model| {
-        let courses = words_up_to(1, 9);
-        let courses = courses.into_iter().map(|u| (u, vec![0])).collect();
-        judging(plain(model), courses)
-    }));
-    let missing = named_missing().into_iter().take(6);
-    for given in edges().into_iter().chain(missing) {
-        let all_courses = edge_courses(given.k.clamp(1, 200) as u8);
-        let most = if given.refusal() == 0 { 59 } else { 4 };
-        all.push(judging(given, all_courses.into_iter().take(most).collect()));
+    let mut all = Vec::new();
+    for given in small().into_iter().map(plain) {
+        let courses = short_courses(given.model.k);
+        let step = courses.len() / 20 + 1;
+        all.extend(judging(&given, courses.into_iter().step_by(step)));
     }
-    for round in 0..30 {
+    for given in rings().into_iter().map(plain) {
+        let words = words_up_to(1, 9).into_iter();
+        all.extend(judging(&given, words.map(|u| (u, vec![0]))));
+    }
+    for given in edges() {
+        let courses = edge_courses(given.k.clamp(1, 200) as u8);
+        let step = if given.refusal() == 0 { 2 } else { 20 };
+        all.extend(judging(&given, courses.into_iter().step_by(step)));
+    }
+    for round in 0..10 {
         let model = match round % 3 {
             0 => random.model_up_to(8, 16),
             _ => random.model(),
         };
-        let courses = of_every_length(random, model.k);
-        all.push(judging(plain(model), courses));
+        let courses = of_every_length(random, model.k).into_iter();
+        all.extend(judging(&plain(model), courses.skip(round).step_by(5)));
     }
     all
 }
 
-fn judging(given: Given, courses: Vec<Course>) -> Case {
-    assert!(courses.len() < 256, "more courses than a byte counts");
-    let short = |(u, v): &Course| u.len().max(v.len()) <= MOST_LETTERS;
-    assert!(
-        courses.iter().all(short),
-        "a word with more letters than are read"
-    );
-    asking(given, Asked::Courses(courses))
+fn judging(given: &Given, courses: impl Iterator<Item = Course>) -> Vec<Case> {
+    courses
+        .map(|(u, v)| {
+            let both = u.len() + v.len();
+            assert!(
+                both <= 2 * MOST_LETTERS,
+                "words with more letters than are read"
+            );
+            asking(given.clone(), Asked::Course((u, v)))
+        })
+        .collect()
 }
 
 /// Of the small models, of some random ones of every size, at the limits, and of models that are refused.
@@ -278,6 +254,7 @@ fn opposites(random: &mut Random) -> Vec<Case> {
     );
     all.push(plain(near_the_limits()));
     all.extend(at_the_limit().map(plain));
+    all.extend(large().into_iter().skip(2).take(2).map(plain));
     let asked = |given| asking(given, Asked::Opposite);
     all.into_iter().map(asked).collect()
 }

@@ -46,6 +46,9 @@ fn assert_verdicts(all: &[&Told]) {
     assert_some(all, "cut at the limit", |told| {
         told.fields[0] == 5 && told.fields[3] == 2_048
     });
+    assert_some(all, "5 with no word memory", |told| {
+        told.fields[0] == 5 && told.lengths[8] == 0
+    });
     assert_lengths(all, 9);
 }
 
@@ -65,6 +68,11 @@ fn assert_opposites(all: &[&Told]) {
     assert_some(all, "opposite above the limits", |told| {
         told.fields[0] == 7 && told.lengths[8..].iter().all(|&room| room >= 65_535)
     });
+    assert_some(
+        all,
+        "opposite of a model that is cut at the limit",
+        |told| told.fields[0] == 5 && told.fields[2] == 2_048,
+    );
     assert_lengths(all, 12);
 }
 

@@ -6,4 +6,3 @@ size_t strlen(const char *text);
 int memcmp(const void *a, const void *b, size_t count);
 void *memcpy(void *to, const void *from, size_t count);
 void *memset(void *to, int byte, size_t count);
-void *memcpy(void *to, const void *from, size_t count);

@@ -1,6 +1,6 @@
 // Runs stored models through the calls for C, each with memory of full size: the verdict, single courses, or the opposite. Of each run the
-// answer is printed, and of the verdict and the opposite a sum of the answer and of memory. The file stdout was written by the independent
-// program.
+// answer is printed; with a verdict the sum of the word memory, with an opposite that of its four slices. No place holds what is written to it
+// most, so that it is seen what is written and what is left. The file stdout was written by the independent program.
 ghost use Prim.Native.Nat.{_<_};
 use libc::STDIN_FILENO;
 use model::Model;
@@ -11,7 +11,7 @@ mod opposites;
 mod sums;
 mod verdicts;
 
-use courses::show_courses;
+use courses::show_course;
 use opposites::show_opposite;
 use sums::wide;
 use verdicts::show_verdict;
@@ -22,8 +22,8 @@ const HEAD: usize = 4;
 
 const MOST_ARROWS: usize = 17;
 
-// What is asked for: the verdict, or the courses that follow, or the opposite.
-const COURSES: u8 = 1;
+// What is asked for: the verdict, or the course that follows, or the opposite.
+const COURSE: u8 = 1;
 
 const OPPOSITE: u8 = 2;
 
@@ -41,8 +41,8 @@ fn read_number() -> u64 {
 }
 
 fn show(m: Model, arrows: &[u64], asked: u8) {
-    if asked == COURSES {
-        show_courses(m, arrows);
+    if asked == COURSE {
+        show_course(m, arrows);
         return;
     }
     if asked == OPPOSITE {

@@ -20,8 +20,8 @@ shared-slice-read-wide c = search needs
 wide-requires : tie.Need-wide-requires Inv-loop μ-loop
 wide-requires c κs = search needs
 
-mix-part-requires : tie.Need-mix-part-requires Inv-loop μ-loop
-mix-part-requires c κs = search needs
+mix-requires : tie.Need-mix-requires Inv-loop μ-loop
+mix-requires c κs = search needs
 
 add-i : tie.Need-add-i Inv-loop μ-loop
 add-i c = search needs
@@ -44,7 +44,7 @@ mix-bytes-spec =
     loop-holds
     shared-slice-read-wide
     wide-requires
-    mix-part-requires
+    mix-requires
     add-i
     loop-less
     loop-again

@@ -23,8 +23,8 @@ shared-slice-read-wider c = search needs
 wider-requires : tie.Need-wider-requires Inv-loop μ-loop
 wider-requires c κs = search needs
 
-mix-part-requires : tie.Need-mix-part-requires Inv-loop μ-loop
-mix-part-requires c κs = search needs
+mix-requires : tie.Need-mix-requires Inv-loop μ-loop
+mix-requires c κs = search needs
 
 add-i : tie.Need-add-i Inv-loop μ-loop
 add-i c = search needs
@@ -48,7 +48,7 @@ mix-numbers-spec =
     mul-wider
     shared-slice-read-wider
     wider-requires
-    mix-part-requires
+    mix-requires
     add-i
     loop-less
     loop-again
