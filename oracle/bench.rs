@@ -77,7 +77,7 @@ fn compare(model: &Model, runner: &[&str]) -> Result<(), String> {
     if !cut && question.expected.fields[4..] != [0, 1] {
         return Err("the first pair does not reject".to_string());
     }
-    let (library, here) = in_turns(runner, question, || straight(model))?;
+    let (library, here) = in_turns(runner, question, || straight(model, profiles))?;
     println!(
         "n {} k {}: {} sets, {} profiles{}: library {:.2} ms, straight look-up in Rust {:.2} ms, ratio {:.2}",
         model.n,
@@ -158,10 +158,12 @@ fn median(mut took: Vec<f64>) -> f64 {
     took[took.len() / 2]
 }
 
-/// The memory is cleared before the clock starts.
-fn straight(model: &Model) -> f64 {
+/// The memory is cleared before the clock starts. What is found is asked for, so that no compiler leaves it out.
+fn straight(model: &Model, profiles: usize) -> f64 {
     let mut lent = Lent::cleared();
     let began = Instant::now();
-    std::hint::black_box(lent.close(std::hint::black_box(model)));
-    began.elapsed().as_secs_f64() * 1e3
+    let (_, found, _) = lent.close(model);
+    let took = began.elapsed();
+    assert_eq!(found, profiles);
+    took.as_secs_f64() * 1e3
 }

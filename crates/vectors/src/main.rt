@@ -1,6 +1,6 @@
 // Runs stored models through the calls for C, each with memory of full size: the verdict, single courses, or the opposite. Of each run the
-// answer is printed; with a verdict the sum of the word memory, with an opposite that of its four slices. No place holds what is written to it
-// most, so that it is seen what is written and what is left. The file stdout was written by the independent program.
+// answer is printed; with a verdict the sum of the word memory, with an opposite that of its four slices. Before a call every place holds 9, so
+// that it is seen what is written and what is left. The file stdout was written by the independent program.
 ghost use Prim.Native.Nat.{_<_};
 use libc::STDIN_FILENO;
 use model::Model;
