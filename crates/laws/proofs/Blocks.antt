@@ -82,7 +82,7 @@ module _ (W : ℕ) (M : Machine ℕ) (bs : List Profile) where
   read_t {t = t} h i (behind e) = e ∙ ap (join W t) i ∙ h
 
   -- kept along an arrow
-  inside_lead : {t : Profile} {z : Option Profile} {s r : Point} {a : ℕ} → join W t t ≡ t → Inside t z s
+  inside_lead : {t : Profile} {z : Option Profile} {s : Point} {a : ℕ} {r : Point} → join W t t ≡ t → Inside t z s
       → Leads W M bs s a r → Inside t (some (next_profile W M z a)) r
   inside_lead {a = a} h (inside d) block_on = inside (read_next a d)
   inside_lead {a = a} h (inside d) (block_back e) = inside (whole (read_t h e (read_next a d)))
@@ -95,7 +95,7 @@ module _ (W : ℕ) (M : Machine ℕ) (bs : List Profile) where
   inside_way z h i (on {a = a} l s) = inside_way (some (next_profile W M z a)) h (inside_lead h i l) s
 
   -- at the gate, nothing or t was read
-  inside_gate : {t : Profile} {z : Option Profile} → Inside t z (at_block t none) → (z ≡ none) ⊎ (z ≡ some t)
+  inside_gate : {t u : Profile} {z : Option Profile} → Inside t z (at_block u none) → (z ≡ none) ⊎ (z ≡ some t)
   inside_gate (inside nothing) = inl refl
   inside_gate (inside (whole e)) = inr (ap some e)
 
@@ -114,7 +114,7 @@ module _ (W : ℕ) (M : Machine ℕ) (bs : List Profile) where
     the_block : (P : ℕ) {t z : Profile} {s : Point} → rejects_non_empty W P t ≡ true → Inside t (some z) s → Q ≡ image W P z → Tells Q s
 
   -- kept along an arrow
-  tells_lead : {Q : ℕ} {s r : Point} {a : ℕ} → Tells Q s → Leads W M bs s a r → Tells (after W M Q a) r
+  tells_lead : {Q : ℕ} {s : Point} {a : ℕ} {r : Point} → Tells Q s → Leads W M bs s a r → Tells (after W M Q a) r
   unfolding next_profile
   tells_lead the_set set_is_on = the_set
   tells_lead {Q = Q} {a = a} the_set (set_enters i h) = the_block Q h (inside direct) (after_event W M a Q)
@@ -135,6 +135,7 @@ module _ (W : ℕ) (M : Machine ℕ) (bs : List Profile) where
     where
       go : {R Q : ℕ} → Tells R (at_set Q) → R ≡ Q
       go the_set = refl
+      go (the_block _ _ i _) = elim i [ ]
 
   -- a way from a set to the gate of t reads a word whose set rejects with t
   pub gate_reached : {P : ℕ} {t : Profile} {w : Word} → Way W M bs (at_set P) w (at_block t none) → is_rejecting_pair W (set_from W M P w) t ≡ true

@@ -369,7 +369,7 @@ module _ (W : ℕ) (M : Machine ℕ) (k : ℕ) (Ps : List ℕ) (ts bs : List Pro
   block_found (state_found there at_x) = there
 
   -- each step is a listed arrow
-  listed : {s r : Point} (a : ℕ) → a < k → Found Ps ts bs s → Leads W M bs s a r
+  listed : {s : Point} (a : ℕ) {r : Point} → a < k → Found Ps ts bs s → Leads W M bs s a r
       → Found Ps ts bs r × Member (arrow (number Ps ts bs s) a (number Ps ts bs r)) (arrows W M k Ps ts bs)
   unfolding number from_set
   listed a h (set_found {P = P} x) set_is_on = (set_found (closed.next_set_is P a x h), of_set _ a (set_placed P Ps x) h (head refl))
