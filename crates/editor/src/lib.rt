@@ -1,4 +1,5 @@
 // The calls for an editor written in C: numbers and slices go in, a plain struct of numbers comes back.
+#![tactic(auto)]
 ghost use Rattle.std.specs.Prelude.{◌≡◌};
 ghost use Rattle.closing.specs.Memory.{set_memory, profile_memory};
 ghost use Rattle.opposite.specs.Memory.{opposite_memory};

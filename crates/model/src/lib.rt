@@ -1,5 +1,6 @@
 // The model of the first kind, with eight states at most: its limits, what is refused of it, and its file. Each public call takes any
 // numbers, any bytes and any lent slice.
+#![tactic(auto)]
 mod bounds;
 mod fields;
 mod file;
@@ -14,7 +15,7 @@ use fields::Field;
 
 // n states, k events, and a bit for each start state and for each home state. The arrows stand beside it, a number for each event:
 // bit 8·p+q for an arrow from p to q.
-#[derive(Drop)]
+#[derive(Clone, Copy)]
 pub struct Model {
     pub n: usize,
     pub k: usize,

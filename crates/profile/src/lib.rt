@@ -1,5 +1,6 @@
 // One profile: joined with another, made from one event, the set that it leads a set to, and whether it rejects with a set. Each public
 // call takes any numbers.
+#![tactic(auto)]
 mod bits;
 mod pairs;
 
@@ -14,14 +15,14 @@ use model::Model;
 pub use pairs::{is_rejecting, marks_round};
 
 // Two numbers: bit 8·p+q says of one whether p leads to q, and of the other whether that is marked.
-#[derive(Drop)]
+#[derive(Clone, Copy)]
 pub struct Profile {
     pub arrows: u64,
     pub marks: u64,
 }
 
 // What was read so far: nothing, or a word with this profile.
-#[derive(Drop)]
+#[derive(Clone, Copy)]
 pub enum Before {
     Nothing,
     Word(Profile),

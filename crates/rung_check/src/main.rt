@@ -1,4 +1,5 @@
 // Reads one model file from standard input and prints the verdict, or the refusal.
+#![tactic(auto)]
 use libc::{STDIN_FILENO, STDOUT_FILENO};
 
 mod report;

@@ -1,6 +1,7 @@
 // Runs stored models through the calls for C, each with memory of full size: the verdict, single courses, or the opposite. Of each run the
 // answer is printed; with a verdict the sum of the word memory, with an opposite that of its four slices. Before a call every place holds 9, so
 // that it is seen what is written and what is left. The file stdout was written by the independent program.
+#![tactic(auto)]
 ghost use Rattle.std.specs.Prelude.{◌<◌};
 
 use libc::STDIN_FILENO;
