@@ -1,6 +1,7 @@
 // Closing: a model's sets and profiles, all of them, into memory that is lent. The call takes any numbers and any slices, and says in its
 // contract what it answers and what every lent slice holds afterwards.
 #![tactic(auto)]
+
 mod events;
 mod profiles;
 mod sets;

@@ -1,5 +1,6 @@
 // One course, judged without tables. The call takes any numbers and any two words, and says in its contract what it answers.
 #![tactic(auto)]
+
 mod words;
 
 ghost use Rattle.std.specs.Prelude.{◌≡◌, true, false, ◌↔◌};

@@ -1,6 +1,7 @@
 // The verdict: whether every course is accepted, or one that is not. The call takes any numbers and any lent slices, and says in its
 // contract what it answers and what every lent slice holds afterwards.
 #![tactic(auto)]
+
 mod answer;
 mod pairs;
 mod words;

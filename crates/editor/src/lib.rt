@@ -1,5 +1,6 @@
-// The calls for an editor written in C: numbers and slices go in, a plain struct of numbers comes back.
+// The calls for an editor written in C: numbers and slices go in, a plain struct of numbers comes back. The crate editor_c exports them.
 #![tactic(auto)]
+
 ghost use Rattle.std.specs.Prelude.{◌≡◌};
 ghost use Rattle.closing.specs.Memory.{set_memory, profile_memory};
 ghost use Rattle.opposite.specs.Memory.{opposite_memory};
@@ -71,8 +72,7 @@ fn plain(answer: Answer) -> CoverVerdict
 }
 
 // The verdict, as `verdict` gives it.
-#[unsafe(no_mangle)]
-pub extern "C" fn cover_verdict(
+pub fn cover_verdict(
     n: usize,
     k: usize,
     start: u8,
@@ -155,8 +155,7 @@ fn plain_opposite(answer: opposite::Answer) -> CoverOpposite
 }
 
 // The opposite, as `opposite` writes it.
-#[unsafe(no_mangle)]
-pub extern "C" fn cover_opposite(
+pub fn cover_opposite(
     n: usize,
     k: usize,
     start: u8,
@@ -238,8 +237,7 @@ fn plain_course(answer: Judgement) -> CoverCourse
 }
 
 // One course, as `judge` judges it.
-#[unsafe(no_mangle)]
-pub extern "C" fn cover_course(
+pub fn cover_course(
     n: usize,
     k: usize,
     start: u8,
@@ -291,8 +289,7 @@ fn plain_reading(answer: Reading) -> CoverReading
 }
 
 // A model file, as `read` reads it.
-#[unsafe(no_mangle)]
-pub extern "C" fn cover_read(file: &[u8], arrows: &mut [u64]) -> CoverReading
+pub fn cover_read(file: &[u8], arrows: &mut [u64]) -> CoverReading
     ensures { ExportsReading file.now arrows.old arrows.new result }
 {
     plain_reading(model::read(file, arrows))

@@ -91,9 +91,9 @@ pub record ClosingAnswer : Type 0 where
 -- a refused model enters nothing; with too little room for sets the sets fill it; with too little for profiles all sets are there, and the
 -- profiles fill theirs
 unfoldable pub closing_answer : Kind → Model → ℕ → ℕ → ClosingAnswer
-closing_answer K m room_of_set profile_room =
+closing_answer K m set_room profile_room =
     let M : Machine ℕ = machine K.states m in
-    let S : Table ℕ = set_table K.states M m.k room_of_set in
+    let S : Table ℕ = set_table K.states M m.k set_room in
     let T : Table Profile = profile_table K.states M m.k profile_room in
     elim (first_of (model_checks K m)).number [
       | suc r ↦ record { number = suc r; sets = []; profiles = [] }
@@ -111,12 +111,12 @@ closing_answer K m room_of_set profile_room =
 -- THE SAME AS DOCUMENT 01 LISTS IT, when sets and profiles are all there are: 4 exactly if there are more sets than room, then 5 exactly if
 -- there are more profiles than room
 unfoldable pub closing_of : Kind → Model → ℕ → ℕ → List (Entry ℕ) → List (Entry Profile) → ClosingAnswer
-closing_of K m room_of_set profile_room sets profiles =
+closing_of K m set_room profile_room sets profiles =
     elim (first_of (model_checks K m)).number [
       | suc r ↦ record { number = suc r; sets = []; profiles = [] }
       | zero ↦
-          elim (ltb room_of_set (length sets)) [
-            | true ↦ record { number = 4; sets = take room_of_set sets; profiles = [] }
+          elim (ltb set_room (length sets)) [
+            | true ↦ record { number = 4; sets = take set_room sets; profiles = [] }
             | false ↦
                 elim (ltb profile_room (length profiles)) [
                   | true ↦ record { number = 5; sets = sets; profiles = take profile_room profiles }
@@ -156,7 +156,7 @@ verdict_from W c word_room =
     ]
 
 unfoldable pub verdict_answer : Kind → Model → ℕ → ℕ → ℕ → VerdictAnswer
-verdict_answer K m room_of_set profile_room word_room = verdict_from K.states (closing_answer K m room_of_set profile_room) word_room
+verdict_answer K m set_room profile_room word_room = verdict_from K.states (closing_answer K m set_room profile_room) word_room
 
 -- THE OPPOSITE: the number, what stands in the tables, and the opposite's flags and arrows, none of them after a refusal
 pub record OppositeAnswer : Type 0 where
@@ -169,22 +169,22 @@ pub record OppositeAnswer : Type 0 where
 -- the opposite's answer from that of closing, for a machine M over k events: its refusal; 7 where the counted states or arrows exceed their
 -- room; else 0 and the opposite
 unfoldable pub opposite_from : ℕ → Machine ℕ → ℕ → ClosingAnswer → ℕ → ℕ → OppositeAnswer
-opposite_from W M k c room_of_state arrow_room =
+opposite_from W M k c state_room arrow_room =
     let Ps : List ℕ = values c.sets in
     let ts : List Profile = values c.profiles in
     let bs : List Profile = block_profiles W Ps ts in
     elim c.number [
       | suc n ↦ record { number = suc n; sets = c.sets; profiles = c.profiles; flags = []; arrows = [] }
       | zero ↦
-          elim (ltb room_of_state (state_count Ps ts bs) || ltb arrow_room (arrow_count W M k Ps ts bs)) [
+          elim (ltb state_room (state_count Ps ts bs) || ltb arrow_room (arrow_count W M k Ps ts bs)) [
             | true ↦ record { number = 7; sets = c.sets; profiles = c.profiles; flags = []; arrows = [] }
             | false ↦ record { number = 0; sets = c.sets; profiles = c.profiles; flags = flags Ps ts bs; arrows = arrows W M k Ps ts bs }
           ]
     ]
 
 unfoldable pub opposite_answer : Kind → Model → ℕ → ℕ → ℕ → ℕ → OppositeAnswer
-opposite_answer K m room_of_set profile_room room_of_state arrow_room =
-    opposite_from K.states (machine K.states m) m.k (closing_answer K m room_of_set profile_room) room_of_state arrow_room
+opposite_answer K m set_room profile_room state_room arrow_room =
+    opposite_from K.states (machine K.states m) m.k (closing_answer K m set_room profile_room) state_room arrow_room
 
 -- THE CALLS THAT FILL TABLES, with their lent slices, the word memory as it is lent
 unfoldable pub closing_in : Kind → Model → SetSlices → ProfileSlices → ClosingAnswer

@@ -1,6 +1,7 @@
 // The model of the first kind, with eight states at most: its limits, what is refused of it, and its file. Each public call takes any
 // numbers, any bytes and any lent slice.
 #![tactic(auto)]
+
 mod bounds;
 mod fields;
 mod file;

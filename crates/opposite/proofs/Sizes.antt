@@ -122,8 +122,8 @@ module _ (W : ℕ) (M : Machine ℕ) (k : ℕ) (Ps : List ℕ) (ts : List Profil
     pub lines_left : Adding (block_arrows W Ps ts M k) ts all_lines lines j
 
   -- an answer that it does not fit is right where a test of both fails
-  no_fit : {room_of_state arrow_room : ℕ} {answer : Counts} → answer.fits ≡ false
-      → (leb all_states room_of_state && leb all_lines arrow_room) ≡ false → Counted W M k Ps ts room_of_state arrow_room answer
+  no_fit : {state_room arrow_room : ℕ} {answer : Counts} → answer.fits ≡ false
+      → (leb all_states state_room && leb all_lines arrow_room) ≡ false → Counted W M k Ps ts state_room arrow_room answer
   no_fit e f =
       record { fits = e ∙ sym f; blocks = λ h. never (sym e ∙ h); states_are = λ h. never (sym e ∙ h); arrows_are = λ h. never (sym e ∙ h) }
 
@@ -195,28 +195,28 @@ module _ (W : ℕ) (M : Machine ℕ) (k : ℕ) (Ps : List ℕ) (ts : List Profil
             at_most (has_block W Ps t)
             (omega (arith, product few_events few_pairs, product few_states few_events, few_seconds W M k t ts few_events few_profiles))
 
-    module _ {room_of_state arrow_room : ℕ} where
+    module _ {state_room arrow_room : ℕ} where
       -- with more states so far than there is room for, or more arrows, the opposite does not fit
-      pub too_many_states : {answer : Counts} → answer.fits ≡ false → room_of_state < states
-          → Counted W M k Ps ts room_of_state arrow_room answer
+      pub too_many_states : {answer : Counts} → answer.fits ≡ false → state_room < states
+          → Counted W M k Ps ts state_room arrow_room answer
       too_many_states e l =
-          let more : room_of_state < all_states = omega (arith, so.states_are_left.left) in
-          no_fit e (rw (lt-leb all_states room_of_state more))
+          let more : state_room < all_states = omega (arith, so.states_are_left.left) in
+          no_fit e (rw (lt-leb all_states state_room more))
 
       pub too_many_lines : {answer : Counts} → answer.fits ≡ false → {n : ℕ} → arrow_room < n → n ≤ lines
-          → Counted W M k Ps ts room_of_state arrow_room answer
+          → Counted W M k Ps ts state_room arrow_room answer
       too_many_lines e l h =
           let more : arrow_room < all_lines = omega (arith, so.lines_left.left) in
-          no_fit e (rw (lt-leb all_lines arrow_room more) (and-false (leb all_states room_of_state)))
+          no_fit e (rw (lt-leb all_lines arrow_room more) (and-false (leb all_states state_room)))
 
       -- at the end, with room for both, all is counted
-      pub all_fit : drop j ts ≡ [] → states ≤ room_of_state → lines ≤ arrow_room
-          → Counted W M k Ps ts room_of_state arrow_room (record { fits = true; blocks = blocks; states = states; arrows = lines })
+      pub all_fit : drop j ts ≡ [] → states ≤ state_room → lines ≤ arrow_room
+          → Counted W M k Ps ts state_room arrow_room (record { fits = true; blocks = blocks; states = states; arrows = lines })
       all_fit end h l =
           let states_are : states ≡ all_states = add_ends (block_states W Ps ts) ts so.states_are_left end in
           let arrows_are : lines ≡ all_lines = add_ends (block_arrows W Ps ts M k) ts so.lines_left end in
           record {
-            fits = sym (both (le-leb all_states room_of_state (omega arith)) (le-leb all_lines arrow_room (omega arith)));
+            fits = sym (both (le-leb all_states state_room (omega arith)) (le-leb all_lines arrow_room (omega arith)));
             blocks = λ _. count_ends (has_block W Ps) ts so.blocks_left end ∙ sym (blocks_counted W Ps ts);
             states_are = λ _. states_are;
             arrows_are = λ _. arrows_are;

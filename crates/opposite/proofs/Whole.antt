@@ -202,9 +202,9 @@ module _ {W : ℕ} {M : Machine ℕ} {k : ℕ} {Ps leads marks from event to fs 
         ap₂ (λ (l : ArrowSlices) g. opposite_memory l.from l.event l.to g) all.slices (flags_put e)
 
 -- WHAT WAS COUNTED for rooms that are those of the slices O
-module _ {W : ℕ} {M : Machine ℕ} {k : ℕ} {Ps : List ℕ} {ts : List Profile} (O : OppositeSlices) {room_of_state arrow_room : ℕ}
-    {answer : Counts} (p : room_of_state ≡ room_for_states O) (q : arrow_room ≡ room_for_arrows O)
-    (c : Counted W M k Ps ts room_of_state arrow_room answer) where
+module _ {W : ℕ} {M : Machine ℕ} {k : ℕ} {Ps : List ℕ} {ts : List Profile} (O : OppositeSlices) {state_room arrow_room : ℕ}
+    {answer : Counts} (p : state_room ≡ room_for_states O) (q : arrow_room ≡ room_for_arrows O)
+    (c : Counted W M k Ps ts state_room arrow_room answer) where
   -- it was counted for the slices
   counted_room : Counted W M k Ps ts (room_for_states O) (room_for_arrows O) answer
   counted_room = subst (λ r. Counted W M k Ps ts (room_for_states O) r answer) q (subst (λ r. Counted W M k Ps ts r arrow_room answer) p c)

@@ -74,8 +74,8 @@ module _ (W : ℕ) (M : Machine ℕ) (k : ℕ) (Ps : List ℕ) (ts : List Profil
   abbrev lines : ℕ
   lines = arrow_count W M k Ps ts bs
 
-  pub record Counted (room_of_state arrow_room : ℕ) (answer : Counts) : Type 0 where
-    pub fits : answer.fits ≡ (leb states room_of_state && leb lines arrow_room)
+  pub record Counted (state_room arrow_room : ℕ) (answer : Counts) : Type 0 where
+    pub fits : answer.fits ≡ (leb states state_room && leb lines arrow_room)
     pub blocks : answer.fits ≡ true → answer.blocks ≡ length bs
     pub states_are : answer.fits ≡ true → answer.states ≡ states
     pub arrows_are : answer.fits ≡ true → answer.arrows ≡ lines

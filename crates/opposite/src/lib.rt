@@ -1,6 +1,7 @@
 // The opposite machine. The public call takes any numbers and any lent slices, and says in its contract what it answers and what every lent
 // slice holds afterwards.
 #![tactic(auto)]
+
 mod arrows;
 mod counts;
 mod draw;

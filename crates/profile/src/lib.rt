@@ -1,6 +1,7 @@
 // One profile: joined with another, made from one event, the set that it leads a set to, and whether it rejects with a set. Each public
 // call takes any numbers.
 #![tactic(auto)]
+
 mod bits;
 mod pairs;
 

@@ -1,5 +1,6 @@
 // Reads one model file from standard input and prints the verdict, or the refusal.
 #![tactic(auto)]
+
 use libc::{STDIN_FILENO, STDOUT_FILENO};
 
 mod report;

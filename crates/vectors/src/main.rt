@@ -2,6 +2,7 @@
 // answer is printed; with a verdict the sum of the word memory, with an opposite that of its four slices. Before a call every place holds 9, so
 // that it is seen what is written and what is left. The file stdout was written by the independent program.
 #![tactic(auto)]
+
 ghost use Rattle.std.specs.Prelude.{◌<◌};
 
 use libc::STDIN_FILENO;
