@@ -1,12 +1,14 @@
 // Reads one model file from standard input and prints the verdict, or the refusal.
 #![tactic(auto)]
 
-use libc::{STDIN_FILENO, STDOUT_FILENO};
+ghost use Rattle.std.specs.Prelude.{◌≤◌, length};
 
 mod report;
 mod text;
 
 use report::report;
+use std::io;
+use std::io::{Read, Write};
 
 // A longest valid file has 211 bytes. With one byte more it is seen that something follows, and no check looks any further, so a longer
 // file is judged by its first 212 bytes as it is by all of them: `printed_beginning` says so.
@@ -15,11 +17,25 @@ const MOST_BYTES: usize = 212;
 // More than a longest report has: `printed_short` says so.
 const MOST_TEXT: usize = 8192;
 
-fn main() {
+// Reads until the slice is full or the input ends, and says how many bytes were read. A read that fails counts as the file's end.
+fn read_start<R: Read>(input: &mut R, file: &mut [u8]) -> usize
+    ensures { result ≤ length file.new }
+{
+    let mut count = 0;
+    while count < file.len() {
+        let more = input.read(&mut file[count..]).unwrap_or(0);
+        if more == 0 {
+            return count;
+        }
+        count += more;
+    }
+    count
+}
+
+fn main(rt: HostRuntime) -> io::Result<()> {
     let mut file = [0u8; MOST_BYTES];
     let mut text = [0u8; MOST_TEXT];
-    // A read that fails counts as the file's end.
-    let count = io::read_full(STDIN_FILENO, &mut file);
+    let count = read_start(&mut rt.stdin(), &mut file);
     let end = report(&file[..count], &mut text);
-    io::write_all(STDOUT_FILENO, &text[..end]);
+    rt.stdout().write_all(&text[..end])
 }

@@ -1,14 +1,22 @@
 // The course behind a stored model, and its judgement in a line.
 use crate::sums::{print, wide};
 use editor::cover_course;
-use libc::STDIN_FILENO;
 use model::{Model, least};
+use std::io;
+use std::io::Read;
 
 // A stored course: how many letters u has, and how many u and v have, at most so many; and then the letters, zeros behind them.
 const MOST_LETTERS: usize = 80;
 
 // The first letters are those of u, the others up to an end those of v.
-fn show_judged(m: Model, arrows: &[u64], letters: &[u8], u: usize, both: usize) {
+fn show_judged<P: Print>(
+    rt: &P,
+    m: Model,
+    arrows: &[u64],
+    letters: &[u8],
+    u: usize,
+    both: usize,
+) -> io::Result<()> {
     let end = least(both, letters.len());
     let a = least(u, end);
     let r = cover_course(
@@ -20,20 +28,26 @@ fn show_judged(m: Model, arrows: &[u64], letters: &[u8], u: usize, both: usize) 
         &letters[..a],
         &letters[a..end],
     );
-    print(wide(r.number), b' ');
-    print(wide(r.judgement), b'\n');
+    print(rt, wide(r.number), ' ')?;
+    print(rt, wide(r.judgement), '\n')
 }
 
-pub fn show_course(m: Model, arrows: &[u64]) {
+pub fn show_course<P: Print, R: Read>(
+    rt: &P,
+    input: &mut R,
+    m: Model,
+    arrows: &[u64],
+) -> io::Result<()> {
     let mut lengths = [0u8; 2];
     let mut letters = [0u8; MOST_LETTERS];
-    io::read_full(STDIN_FILENO, &mut lengths);
-    io::read_full(STDIN_FILENO, &mut letters);
+    let _ = input.read_exact(&mut lengths);
+    let _ = input.read_exact(&mut letters);
     show_judged(
+        rt,
         m,
         arrows,
         &letters,
         wide(lengths[0]) as usize,
         wide(lengths[1]) as usize,
-    );
+    )
 }

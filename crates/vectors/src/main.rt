@@ -5,8 +5,9 @@
 
 ghost use Rattle.std.specs.Prelude.{◌<◌};
 
-use libc::STDIN_FILENO;
 use model::{Model, least};
+use std::io;
+use std::io::Read;
 
 mod courses;
 mod opposites;
@@ -36,50 +37,64 @@ fn half(a: u8, b: u8, c: u8, d: u8) -> u64
     wide(a) + 256 * wide(b) + 65536 * wide(c) + 16777216 * wide(d)
 }
 
-fn read_number() -> u64 {
+// Where the input ends early, zeros stand for what is missing.
+fn read_number<R: Read>(input: &mut R) -> u64 {
     let mut b = [0u8; 8];
-    io::read_full(STDIN_FILENO, &mut b);
+    let _ = input.read_exact(&mut b);
     half(b[0], b[1], b[2], b[3]) + 4294967296 * half(b[4], b[5], b[6], b[7])
 }
 
-fn show(m: Model, arrows: &[u64], asked: u8) {
+fn show<P: Print, R: Read>(
+    rt: &P,
+    input: &mut R,
+    m: Model,
+    arrows: &[u64],
+    asked: u8,
+) -> io::Result<()> {
     if asked == COURSE {
-        show_course(m, arrows);
-        return;
+        return show_course(rt, input, m, arrows);
     }
     if asked == OPPOSITE {
-        show_opposite(m, arrows);
-        return;
+        return show_opposite(rt, m, arrows);
     }
-    show_verdict(m, arrows);
+    show_verdict(rt, m, arrows)
 }
 
 // As many of the arrow numbers as the stored model says are lent.
-fn show_lent(m: Model, arrows: &[u64], lent: usize, asked: u8) {
+fn show_lent<P: Print, R: Read>(
+    rt: &P,
+    input: &mut R,
+    m: Model,
+    arrows: &[u64],
+    lent: usize,
+    asked: u8,
+) -> io::Result<()> {
     let n = least(lent, arrows.len());
-    show(m, &arrows[..n], asked);
+    show(rt, input, m, &arrows[..n], asked)
 }
 
-fn show_stored(head: [u8; HEAD]) {
+fn show_stored<P: Print, R: Read>(rt: &P, input: &mut R, head: [u8; HEAD]) -> io::Result<()> {
     let m = Model {
-        n: read_number() as usize,
-        k: read_number() as usize,
+        n: read_number(input) as usize,
+        k: read_number(input) as usize,
         start: head[0],
         home: head[1],
     };
     let mut arrows = [0u64; MOST_ARROWS];
     for a in 0..MOST_ARROWS {
-        arrows[a] = read_number();
+        arrows[a] = read_number(input);
     }
-    show_lent(m, &arrows, wide(head[2]) as usize, head[3]);
+    show_lent(rt, input, m, &arrows, wide(head[2]) as usize, head[3])
 }
 
-fn main() {
+fn main(rt: HostRuntime) -> io::Result<()> {
+    let mut input = rt.stdin();
     for _ in 0..65536usize {
         let mut head = [0u8; HEAD];
-        if io::read_full(STDIN_FILENO, &mut head) < HEAD {
-            return;
+        if input.read_exact(&mut head).is_err() {
+            return Ok(());
         }
-        show_stored(head);
+        show_stored(&rt, &mut input, head)?;
     }
+    Ok(())
 }

@@ -2,6 +2,7 @@
 use crate::sums::{mix_bytes, mix_numbers, print, wide};
 use editor::{CoverOpposite, cover_opposite};
 use model::Model;
+use std::io;
 
 // As many arrows and states as an opposite may have.
 const ROOM: usize = 65535;
@@ -49,16 +50,16 @@ fn sum(from: &[u16; ROOM], event: &[u8; ROOM], to: &[u16; ROOM], flags: &[u8; RO
     )
 }
 
-pub fn show_opposite(m: Model, arrows: &[u64]) {
+pub fn show_opposite<P: Print>(rt: &P, m: Model, arrows: &[u64]) -> io::Result<()> {
     let mut from = [9u16; ROOM];
     let mut event = [9u8; ROOM];
     let mut to = [9u16; ROOM];
     let mut flags = [9u8; ROOM];
     let a = called(m, arrows, &mut from, &mut event, &mut to, &mut flags);
-    print(wide(a.number), b' ');
-    print(a.sets as u64, b' ');
-    print(a.profiles as u64, b' ');
-    print(a.states as u64, b' ');
-    print(a.arrows as u64, b' ');
-    print(sum(&from, &event, &to, &flags), b'\n');
+    print(rt, wide(a.number), ' ')?;
+    print(rt, a.sets as u64, ' ')?;
+    print(rt, a.profiles as u64, ' ')?;
+    print(rt, a.states as u64, ' ')?;
+    print(rt, a.arrows as u64, ' ')?;
+    print(rt, sum(&from, &event, &to, &flags), '\n')
 }

@@ -1,7 +1,7 @@
 // What is printed, and the sum of memory.
 ghost use Rattle.std.specs.Prelude.{◌<◌};
 
-use libc::STDOUT_FILENO;
+use std::io;
 
 pub fn wide(x: u8) -> u64
     ensures { result < 256 }
@@ -34,8 +34,6 @@ pub fn mix_numbers(sum: u64, s: &[u16]) -> u64 {
     all
 }
 
-pub fn print(x: u64, end: u8) {
-    io::print_decimal(STDOUT_FILENO, x);
-    let mark = [end];
-    io::write_all(STDOUT_FILENO, &mark);
+pub fn print<P: Print>(rt: &P, x: u64, end: char) -> io::Result<()> {
+    print!(rt; "{x}{end}")
 }
