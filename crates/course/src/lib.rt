@@ -62,8 +62,8 @@ fn repeated(t: Profile) -> Profile
 
 // The course is accepted.
 fn is_accepted(m: Model, arrows: &[u64], u: &[u8], v: &[u8]) -> bool
-    requires readable { Readable m arrows.now u.now }
-    requires readable_2 { Readable m arrows.now v.now × (empty v.now ≡ false) }
+    requires u_readable { Readable m arrows.now u.now }
+    requires v_readable { Readable m arrows.now v.now × (empty v.now ≡ false) }
     ensures { (result ≡ true) ↔ Accepted (machine 8 (asked m arrows.now)) u.now v.now }
 {
     let set = set_of(m, arrows, u);
