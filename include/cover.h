@@ -5,7 +5,7 @@
  * end. The model accepts the course if some start state has a way along its events, arrow by arrow, that comes past a home state again and
  * again for ever.
  *
- * Link target/staticlib/libeditor.a (x86-64 Linux), which `rt staticlib editor` proves and writes. The calls take any numbers and slices
+ * Link target/staticlib/libeditor.a (x86-64 Linux), which ./build-library proves and writes. The calls take any numbers and slices
  * of any length, refuse what they cannot check, and always return. They keep no pointer and allocate nothing. For the verdict a word is
  * rebuilt by a call for each of its letters, 64 bytes of stack each as it is built now: with words of up to 2,048 letters that is up to
  * 128 KiB.

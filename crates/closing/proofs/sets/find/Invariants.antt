@@ -1,0 +1,13 @@
+-- The place of a set is the first at which its mask stands. The loop keeps that at no place before i it does.
+use Prim.Native.Nat.{ℕ, ◌≤◌, ◌<◌, ◌-◌}
+use mathlib.Core.Path.{◌≡◌}
+use mathlib.Core.Bool.{false}
+use lib.ListN.{get_or}
+use lib.Dec.{eqb}
+use Rattle.closing.proofs.sets.find.Given as goal
+
+abbrev pub invariant-loop-i : goal.invariant-loop-i
+invariant-loop-i l = (l.i ≤ l.count) × ((j : ℕ) → j < l.i → eqb (get_or l.masks j 0) l.set ≡ false)
+
+abbrev pub decreases-loop-i : goal.decreases-loop-i
+decreases-loop-i l = l.count - l.i
