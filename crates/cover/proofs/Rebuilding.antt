@@ -1,6 +1,6 @@
 -- How the word of an entry is rebuilt from two slices, of predecessors and of events: letter by letter through ever smaller numbers, as
 -- `count` and `write` do. The slices of a table that holds all values are linked, and give the words of its entries.
-use Prim.Native.Nat.{ℕ, zero, suc, ◌+◌, ◌<◌, ◌≤◌}
+use Prim.Native.Nat.{ℕ, zero, suc, ◌<◌, ◌≤◌}
 use native.Mathlib.Omega.{arith}
 use mathlib.Core.Path.{◌≡◌, refl, sym, ap, ◌∙◌}
 use mathlib.Core.Bool.{Bool, true, false, cond}

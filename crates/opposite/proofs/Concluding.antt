@@ -13,7 +13,7 @@ use borrow.Author.Tests.{ne_eqb, leb-true, leb-false}
 use Rattle.laws.specs.Model.{Machine, eight, machine}
 use Rattle.laws.specs.Refusals.{Unrefused}
 use Rattle.laws.specs.Profiles.{Profile, values}
-use Rattle.laws.specs.Opposite.{Arrow, arrow, block_profiles, state_count, arrow_count, flags, arrows, written}
+use Rattle.laws.specs.Opposite.{Arrow, arrow, block_profiles, state_count, arrow_count}
 use Rattle.laws.specs.Answers.{SetSlices, ProfileSlices, OppositeSlices, room_for_sets, room_for_profiles, room_for_states, room_for_arrows, over, set_slices}
 use Rattle.laws.specs.Answers.{profile_slices, opposite_slices, ClosingAnswer, closing_in, opposite_in}
 use Rattle.laws.proofs.Booleans.{never, and_left, and_right}

@@ -16,12 +16,11 @@ leads_on-place-requires-in-loop-i-clause-room c =
     room_of_state 8 _ _ _ _ _ _ c.loop-i.invariant.1 _ (next_profile_is _ _ _ c.requires.marks_len.0 c.loop-i-test.true)
 
 pub loop-i-preserved : goal.loop-i-preserved
-loop-i-preserved c =
-    (
-      omega arith,
-      state_written 8 _ _ _ _ _ _ c.loop-i.invariant.1 _ (next_profile_is _ _ _ c.requires.marks_len.0 c.loop-i-test.true)
-          c.leads_on-place-in-loop-i.ensures,
-    )
+loop-i-preserved c = (
+  omega arith,
+  state_written 8 _ _ _ _ _ _ c.loop-i.invariant.1 _ (next_profile_is _ _ _ c.requires.marks_len.0 c.loop-i-test.true)
+      c.leads_on-place-in-loop-i.ensures,
+)
 
 pub returns : goal.returns
 returns c =

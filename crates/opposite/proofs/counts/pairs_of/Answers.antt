@@ -37,8 +37,8 @@ loop-i-preserved c =
     count_next _ _ c.loop-i.invariant _ (next_left _ _ 0 c.loop-i-test.true)
     (c.stays_unmarked.ensures ∙ sym (rejects_idempotent 8 _ _ idempotent))
     (elim c.if-stays_unmarked.branch [
-      then-stays_unmarked w ↦ inl (w.if-stays_unmarked.true, w.pairs-is)
-    | else-stays_unmarked w ↦ inr (w.if-stays_unmarked.false, w.pairs-is)
+      | then-stays_unmarked w ↦ inl (w.if-stays_unmarked.true, w.pairs-is)
+      | else-stays_unmarked w ↦ inr (w.if-stays_unmarked.false, w.pairs-is)
     ])
 
 pub returns : goal.returns

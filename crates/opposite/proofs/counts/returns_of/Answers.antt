@@ -59,8 +59,8 @@ loop-a-preserved c =
     c.is_same.ensures in
     count_next _ _ c.loop-a.invariant _ (next_number _ _ c.loop-a-test.true) same
     (elim c.if-is_same.branch [
-      then-is_same w ↦ inl (w.if-is_same.true, w.found-is)
-    | else-is_same w ↦ inr (w.if-is_same.false, w.found-is)
+      | then-is_same w ↦ inl (w.if-is_same.true, w.found-is)
+      | else-is_same w ↦ inr (w.if-is_same.false, w.found-is)
     ])
 
 pub returns : goal.returns

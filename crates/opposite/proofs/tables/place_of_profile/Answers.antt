@@ -26,8 +26,8 @@ unfolding same_profile
 loop-i-preserved c =
     pass _ _ _ c.loop-i.invariant _ (next_profile_is _ _ _ c.requires c.loop-i-test.true)
     (elim c.else-x-arrows.branch [
-      else-x-arrows-via-then-x-arrows+else-x-marks w ↦ decided (eq-eqb _ _ w.if-x-arrows.true) (ne_eqb _ _ w.if-x-marks.false)
-    | else-x-arrows-via-else-x-arrows w ↦ failed _ (ne_eqb _ _ w.if-x-arrows.false)
+      | else-x-arrows-via-then-x-arrows+else-x-marks w ↦ decided (eq-eqb _ _ w.if-x-arrows.true) (ne_eqb _ _ w.if-x-marks.false)
+      | else-x-arrows-via-else-x-arrows w ↦ failed _ (ne_eqb _ _ w.if-x-arrows.false)
     ])
 
 pub returns : goal.returns

@@ -1,7 +1,6 @@
 -- The tables and the word memory have the room that document 01 asks, so the lines of the answer are those of the model.
 use native.Mathlib.Omega.{arith}
 use mathlib.Core.Path.{refl}
-use borrow.Author.Rules.{rules}
 use Rattle.laws.specs.Answers.{room_for_sets, room_for_profiles}
 use Rattle.cover.proofs.Promises.{words_within}
 use Rattle.rung_check.proofs.Pieces.{puts_same}

@@ -1,5 +1,4 @@
 -- The text, the number and the line's end, one behind the other.
-use borrow.Author.Rules.{rules}
 use Rattle.laws.specs.Program.{count_line}
 use Rattle.rung_check.proofs.Pieces.{puts_both, put_within}
 use Rattle.rung_check.proofs.report.put_count.Goals as goal

@@ -1,5 +1,4 @@
 -- One line behind the other.
-use borrow.Author.Rules.{rules}
 use Rattle.rung_check.proofs.Pieces.{puts_both, put_within}
 use Rattle.rung_check.proofs.report.put_counts.Goals as goal
 

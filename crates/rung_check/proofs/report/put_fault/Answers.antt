@@ -1,5 +1,4 @@
 -- The number behind its text, and then the offset, which ends the line.
-use borrow.Author.Rules.{rules}
 use Rattle.laws.specs.Program.{fault_line}
 use Rattle.rung_check.proofs.Pieces.{puts_both, put_within}
 use Rattle.rung_check.proofs.report.put_fault.Goals as goal

@@ -1,12 +1,9 @@
 -- Behind the name, the letters before `i` are put, and each turn puts the next behind them.
-use Prim.Native.Nat.{◌≤◌, ◌-◌}
 use native.Mathlib.Omega.{arith}
 use mathlib.Core.Path.{◌≡◌}
-use lib.ListN.{take, drop}
 use borrow.Author.Rules.{rules}
-use Rattle.laws.specs.Program.{letters, word_line}
-use Rattle.rung_check.specs.Putting.{Puts}
-use Rattle.rung_check.proofs.Pieces.{puts_nothing, puts_both, put_within, put_length}
+use Rattle.laws.specs.Program.{word_line}
+use Rattle.rung_check.proofs.Pieces.{puts_nothing, puts_both, put_within}
 use Rattle.rung_check.proofs.Digits.{letters_none, letters_next}
 use Rattle.rung_check.proofs.report.put_word.Goals as goal
 
@@ -21,13 +18,12 @@ pub put_number-end-requires : goal.put_number-end-requires
 put_number-end-requires c = put_within c.put-end-in-loop-i.ensures
 
 pub loop-i-preserved : goal.loop-i-preserved
-loop-i-preserved c =
-    (
-      search rules,
-      search rules,
-      rw (letters_next c.args.memory.now c.args.from c.loop-i.i c.loop-i.invariant.0 (omega arith))
-          (puts_both c.loop-i.invariant.2 (puts_both c.put-end-in-loop-i.ensures c.put_number-end.ensures)),
-    )
+loop-i-preserved c = (
+  search rules,
+  search rules,
+  rw (letters_next c.args.memory.now c.args.from c.loop-i.i c.loop-i.invariant.0 (omega arith))
+      (puts_both c.loop-i.invariant.2 (puts_both c.put-end-in-loop-i.ensures c.put_number-end.ensures)),
+)
 
 pub put-requires : goal.put-requires
 put-requires c = put_within c.loop-i.invariant.2

@@ -1,12 +1,7 @@
 use Prim.Native.Nat.{◌≤◌, ◌-◌}
-use native.Mathlib.Omega.{arith}
-use mathlib.Core.Path.{◌≡◌}
 use lib.ListN.{take, drop}
-use borrow.Author.Rules.{rules}
-use Rattle.laws.specs.Program.{letters, word_line}
+use Rattle.laws.specs.Program.{letters}
 use Rattle.rung_check.specs.Putting.{Puts}
-use Rattle.rung_check.proofs.Pieces.{puts_nothing, puts_both, put_within, put_length}
-use Rattle.rung_check.proofs.Digits.{letters_none, letters_next}
 use Rattle.rung_check.proofs.report.put_word.Given as goal
 
 abbrev pub invariant-loop-i : goal.invariant-loop-i

@@ -4,7 +4,6 @@ use native.Mathlib.Omega.{arith}
 use mathlib.Core.Path.{◌≡◌, refl, sym, subst}
 use mathlib.Core.List.{List}
 use lib.ListN.{length}
-use borrow.Author.Rules.{rules}
 use Rattle.laws.specs.Program.{printed}
 use Rattle.laws.proofs.Theorems.{report_is_short}
 use Rattle.model.specs.Reader.{ReadsFile}

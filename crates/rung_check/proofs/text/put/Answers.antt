@@ -1,6 +1,5 @@
 -- The byte is written where there is room for it, and otherwise nothing is.
 use native.Mathlib.Omega.{arith}
-use borrow.Author.Rules.{rules}
 use Rattle.rung_check.proofs.Pieces.{puts_byte, puts_none}
 use Rattle.rung_check.proofs.text.put.Goals as goal
 

@@ -1,9 +1,6 @@
 -- The bytes before `i` are put, and each turn puts the next behind them.
-use Prim.Native.Nat.{◌≤◌, ◌-◌}
-use lib.ListN.{length, take}
 use borrow.Author.Rules.{rules}
-use Rattle.rung_check.specs.Putting.{Puts}
-use Rattle.rung_check.proofs.Pieces.{puts_nothing, puts_next, puts_all, put_within, put_length}
+use Rattle.rung_check.proofs.Pieces.{puts_nothing, puts_next, puts_all, put_within}
 use Rattle.rung_check.proofs.text.put_text.Goals as goal
 
 pub loop-i-init : goal.loop-i-init

@@ -1,8 +1,6 @@
 use Prim.Native.Nat.{◌≤◌, ◌-◌}
 use lib.ListN.{length, take}
-use borrow.Author.Rules.{rules}
 use Rattle.rung_check.specs.Putting.{Puts}
-use Rattle.rung_check.proofs.Pieces.{puts_nothing, puts_next, puts_all, put_within, put_length}
 use Rattle.rung_check.proofs.text.put_text.Given as goal
 
 abbrev pub invariant-loop-i : goal.invariant-loop-i
