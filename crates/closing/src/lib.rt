@@ -14,7 +14,7 @@ use model::{Model, refusal};
 pub use table::{NO_ENTRY, NO_EVENT};
 
 // What closing answers: the number, and how many sets and profiles stand in the lent slices.
-#[derive(Drop)]
+#[derive(Clone, Copy)]
 pub struct Closed {
     pub number: u8,
     pub sets: usize,

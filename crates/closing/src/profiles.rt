@@ -6,7 +6,7 @@ ghost use Rattle.laws.specs.Profiles.{same_profile, profile_value, profile_table
 ghost use Rattle.laws.specs.Refusals.{Unrefused};
 ghost use Rattle.laws.specs.Answers.{room_for_profiles, profile_slices};
 ghost use Rattle.model.specs.Asked.{asked};
-ghost use Rattle.profile.specs.Values.{profile, before as beforeOf};
+ghost use Rattle.profile.specs.Values.{profile, before as before_of};
 ghost use Rattle.closing.specs.Search.{FirstPlace};
 ghost use Rattle.closing.specs.Memory.{profile_memory, profiles_in, going, ProfilesLent, Fills};
 
@@ -19,7 +19,7 @@ use profile::{Before, Profile, next};
 fn find(arrows: &[u64], marks: &[u64], count: usize, x: Profile) -> usize
     requires { (count ≤ length arrows.now) × (count ≤ length marks.now) }
     ensures { FirstPlace
-        (λ j. same_profile (record { arrows = get_or arrows.entry.now j 0; marks = get_or marks.now j 0 }) (profile x))
+        (λ j. same_profile (record { arrows = get_or arrows.now j 0; marks = get_or marks.now j 0 }) (profile x))
         count result }
 {
     let mut i = 0;
@@ -84,7 +84,7 @@ fn by_events(
     requires unrefused { Unrefused eight (asked m lent.now) }
     requires profiles_lent { ProfilesLent (profile_memory arrows.old marks.old from.old event.old) count room }
     ensures { Fills profile_slices room
-        (through_events (profile_value 8 (machine 8 (asked m lent.now))) room origin (beforeOf x) m.k 0
+        (through_events (profile_value 8 (machine 8 (asked m lent.now))) room origin (before_of x) m.k 0
         (going (profiles_in (profile_memory arrows.old marks.old from.old event.old) count)))
         (profile_memory arrows.old marks.old from.old event.old)
         (profile_memory arrows.new marks.new from.new event.new) result }

@@ -1,6 +1,6 @@
 // What both tables share: how far a table is filled, and what stands for no entry and no event.
 // How many entries stand there, and whether a new value came for which there was no room.
-#[derive(Drop)]
+#[derive(Clone, Copy)]
 pub struct Filled {
     pub count: usize,
     pub cut: bool,

@@ -17,7 +17,7 @@ use profile::{Profile, image, is_same, join, marks_round, union};
 use words::{letters_below, profile_of_word, set_of};
 
 // The course is accepted or not, or the number of the refusal.
-#[derive(Drop)]
+#[derive(Clone, Copy)]
 pub enum Judgement {
     Accepted,
     Rejected,

@@ -7,7 +7,7 @@ use crate::{pairs, words};
 
 // The verdict, or the number of the refusal; how many sets and profiles stand in the lent slices; and, where it is "uncovered", the lengths
 // of u and v, which stand in the word memory, u first.
-#[derive(Drop)]
+#[derive(Clone, Copy)]
 pub enum Answer {
     Covered {
         sets: usize,

@@ -5,7 +5,7 @@ ghost use Rattle.cover.specs.Pairs.{First};
 use profile::{Profile, is_rejecting};
 
 // The first rejecting pair, by its numbers, where there is one.
-#[derive(Drop)]
+#[derive(Clone, Copy)]
 pub enum Pair {
     Nowhere,
     At { set: usize, profile: usize },

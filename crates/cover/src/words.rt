@@ -39,7 +39,7 @@ fn write(from: &[u16], event: &[u8], i: usize, out: &mut [u8])
 }
 
 // How many letters u and v have, and whether both fit.
-#[derive(Drop)]
+#[derive(Clone, Copy)]
 pub struct Placed {
     pub fits: bool,
     pub u: usize,

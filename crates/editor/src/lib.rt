@@ -20,7 +20,7 @@ const UNCOVERED: u8 = 2;
 
 // The verdict's answer as numbers; include/cover.h declares the same.
 #[repr(C)]
-#[derive(Drop)]
+#[derive(Clone, Copy)]
 pub struct CoverVerdict {
     pub number: u8,
     pub verdict: u8,
@@ -114,7 +114,7 @@ pub fn cover_verdict(
 
 // The opposite's answer as numbers; include/cover.h declares the same.
 #[repr(C)]
-#[derive(Drop)]
+#[derive(Clone, Copy)]
 pub struct CoverOpposite {
     pub number: u8,
     pub sets: usize,
@@ -210,7 +210,7 @@ const NOT_ACCEPTED: u8 = 2;
 
 // The judgement of one course as numbers; include/cover.h declares the same.
 #[repr(C)]
-#[derive(Drop)]
+#[derive(Clone, Copy)]
 pub struct CoverCourse {
     pub number: u8,
     pub judgement: u8,
@@ -254,7 +254,7 @@ pub fn cover_course(
 
 // What was read of a file, as numbers; include/cover.h declares the same.
 #[repr(C)]
-#[derive(Drop)]
+#[derive(Clone, Copy)]
 pub struct CoverReading {
     pub number: u8,
     pub offset: usize,

@@ -72,7 +72,7 @@ module _ (W : ℕ) where
         let (first, second) = (and-eq-true_iff (leads_to W s p r) (leads_to W t r q)).0 leads in
         record { r = r; r_below = l; first = first; second = second; mark = λ _. or_cases (marked W s p r) (marked W t r q) marks }
 
-  -- a profile whose two numbers are below 2^(W-as-W), as those of joins and of events are
+  -- a profile whose two numbers are below 2^(W·W), as those of joins and of events are
   pub record Small (t : Profile) : Type 0 where
     pub arrows_below : t.arrows < 2 ^ (W * W)
     pub marks_below : t.marks < 2 ^ (W * W)

@@ -135,7 +135,7 @@ number_of_bits_same (suc N) f g h =
     ap₂ (λ b y. cond b 1 0 + 2 * y) (h 0 (omega arith)) (number_of_bits_same N (λ i. f (suc i)) (λ i. g (suc i)) (λ i l. h (suc i) (omega arith)))
 
 module _ (W : ℕ) where
-  -- the place of p, q, both below W, is below W-as-W, in row p and column q
+  -- the place of p, q, both below W, is below W·W, in row p and column q
   place_below : (p q : ℕ) → p < W → q < W → W * p + q < W * W
   place_below p q hp hq = omega (arith, mul-suc W p, mul-le-mul_left W hp)
 
@@ -151,12 +151,12 @@ module _ (W : ℕ) where
   cell_grid f p q hp hq =
       bit_number_of_bits (W * W) (λ i. f (i / W) (i % W)) (W * p + q) (place_below p q hp hq) ∙ ap₂ f (place_row p q hq) (place_column p q hq)
 
-  -- and is below 2^(W-as-W)
+  -- and is below 2^(W·W)
   pub grid_below : (f : ℕ → ℕ → Bool) → grid W f < 2 ^ (W * W)
   unfolding grid
   grid_below f = number_of_bits_below (W * W) (λ i. f (i / W) (i % W))
 
-  -- a place below W-as-W has a row and a column below W
+  -- a place below W·W has a row and a column below W
   some_row : (i : ℕ) → i < W * W → zero < W
   some_row i l = go W l
     where
@@ -170,7 +170,7 @@ module _ (W : ℕ) where
   column_below : (i : ℕ) → i < W * W → i % W < W
   column_below i l = mod-lt i (some_row i l)
 
-  -- two numbers below 2^(W-as-W) with the same bits for all p, q below W are equal
+  -- two numbers below 2^(W·W) with the same bits for all p, q below W are equal
   pub same_cells : (x y : ℕ) → x < 2 ^ (W * W) → y < 2 ^ (W * W) → ((p q : ℕ) → p < W → q < W → cell W x p q ≡ cell W y p q) → x ≡ y
   unfolding cell
   same_cells x y hx hy h =

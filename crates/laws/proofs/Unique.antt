@@ -37,7 +37,7 @@ module _ {Value : Type 0} {Val : WordValue Value} {k : ℕ} where
     -- so the number of an entry is known from its word
     number_of : (i j : ℕ) → i < length es → j < length es → h.word i ≡ h.word j → i ≡ j
     number_of i j a b e =
-        let not-below : i < j → ⊥ = λ l. smaller i j l b e in
+        let not_below : i < j → ⊥ = λ l. smaller i j l b e in
         let not_above : j < i → ⊥ = λ l. smaller j i l a (sym e) in
         omega arith
 
@@ -58,7 +58,7 @@ module _ {Value : Type 0} {Val : WordValue Value} {k : ℕ} where
         let (j, f, at_j, same) = g.all (h.word i) e.value (h.word_letters i e at_i) (h.word_value i e at_i) in
         let c = place_below fs j at_j in
         let words = same_least i j e f at_i at_j (sym same) in
-        let not-below : j < i → ⊥ = λ l. smaller h j i l b (below j l c ∙ sym words) in
+        let not_below : j < i → ⊥ = λ l. smaller h j i l b (below j l c ∙ sym words) in
         (omega arith, rw words (not_before g i j (omega arith) c))
 
   -- the words of two lists agree at a number that both have; n bounds it

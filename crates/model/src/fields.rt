@@ -25,7 +25,7 @@ const HEAD: usize = 3;
 const END: [u8; 3] = [0x7F, 0x00, 0x00];
 
 // The value of a field, or the number of its fault and the offset that is told with it.
-#[derive(Drop)]
+#[derive(Clone, Copy)]
 pub enum Field {
     Value { value: u64 },
     Fault { number: u8, offset: usize },

@@ -43,7 +43,7 @@ pub fn least(a: usize, b: usize) -> usize
 }
 
 // A model that was read, or the number of the refusal and the offset of its place in the file.
-#[derive(Drop)]
+#[derive(Clone, Copy)]
 pub enum Reading {
     Read { model: Model },
     Refused { number: u8, offset: usize },

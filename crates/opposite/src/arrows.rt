@@ -5,7 +5,7 @@ ghost use Rattle.laws.specs.Model.{eight, machine};
 ghost use Rattle.laws.specs.Refusals.{Unrefused};
 ghost use Rattle.laws.specs.Opposite.{arrow};
 ghost use Rattle.model.specs.Asked.{asked};
-ghost use Rattle.profile.specs.Values.{profile, before as beforeOf};
+ghost use Rattle.profile.specs.Values.{profile, before as before_of};
 ghost use Rattle.opposite.specs.Tables.{profiles_at, keep_by, is_idempotent};
 ghost use Rattle.opposite.specs.Memory.{arrow_memory, Room, Puts};
 ghost use Rattle.opposite.specs.Drawing.{onto_at, arrows_into_blocks, leads_onward, block_at, blocks_from, set_on, sets_from};
@@ -83,9 +83,9 @@ fn leads_on(
     requires unrefused { Unrefused eight (asked m lent.now) }
     requires marks_len { (length marks.now ≡ length arrows.now) × (gate + 1 + length arrows.now ≤ 65535) × (p ≤ 65535) }
     requires room { Room n (leads_onward 8 (machine 8 (asked m lent.now)) m.k (profiles_at arrows.now marks.now)
-        gate (profile t) p (beforeOf x)) (arrow_memory from.old event.old to.old) }
+        gate (profile t) p (before_of x)) (arrow_memory from.old event.old to.old) }
     ensures { Puts n (leads_onward 8 (machine 8 (asked m lent.now)) m.k
-        (profiles_at arrows.now marks.now) gate (profile t) p (beforeOf x))
+        (profiles_at arrows.now marks.now) gate (profile t) p (before_of x))
         (arrow_memory from.old event.old to.old)
         (arrow_memory from.new event.new to.new) result }
 {

@@ -6,7 +6,7 @@ ghost use Rattle.laws.specs.Refusals.{Unrefused};
 ghost use Rattle.laws.specs.Profiles.{same_profile, next_profile};
 ghost use Rattle.laws.specs.Opposite.{rejects_non_empty, second_count};
 ghost use Rattle.model.specs.Asked.{asked};
-ghost use Rattle.profile.specs.Values.{profile, before as beforeOf};
+ghost use Rattle.profile.specs.Values.{profile, before as before_of};
 ghost use Rattle.opposite.specs.Tables.{profiles_at, remains_unmarked};
 ghost use Rattle.opposite.specs.Drawing.{Counted};
 
@@ -14,7 +14,7 @@ use model::Model;
 use profile::{Before, Profile, image, is_same, join, marks_round, next, of_event};
 
 // Whether the opposite fits, and if so, how many blocks, states and arrows it has.
-#[derive(Drop)]
+#[derive(Clone, Copy)]
 pub struct Counts {
     pub fits: bool,
     pub blocks: usize,
@@ -58,7 +58,7 @@ pub fn pairs_of(masks: &[u8], t: Profile) -> usize
 // On how many events what was read and then the event has the profile t.
 fn returns_of(m: Model, lent: &[u64], x: Before, t: Profile) -> usize
     requires { Unrefused eight (asked m lent.now) }
-    ensures { result ≡ count_of (λ a. same_profile (next_profile 8 (machine 8 (asked m lent.now)) (beforeOf x) a) (profile t))
+    ensures { result ≡ count_of (λ a. same_profile (next_profile 8 (machine 8 (asked m lent.now)) (before_of x) a) (profile t))
         (counted 0 m.k) }
 {
     let mut found = 0;

@@ -20,7 +20,7 @@ use model::Model;
 
 // How many sets and profiles stand in the lent slices; with them how many states and arrows the opposite has, which stand in theirs, or the
 // number of the refusal.
-#[derive(Drop)]
+#[derive(Clone, Copy)]
 pub enum Answer {
     Written {
         sets: usize,

@@ -13,7 +13,7 @@ use Rattle.laws.specs.Profiles.{Profile, same_profile, next_profile, profile_val
 use Rattle.laws.proofs.Members.{length_counted, at_counted}
 use Rattle.profile.specs.declared.Profile as code
 use Rattle.profile.specs.declared.Before.{Before}
-use Rattle.profile.specs.Values.{profile, event_value, next_value, before as beforeOf}
+use Rattle.profile.specs.Values.{profile, event_value, next_value, before as before_of}
 use Rattle.profile.proofs.Lent.{event_value_is}
 use Rattle.closing.proofs.ProfileTable.{next_value_is}
 use Rattle.opposite.proofs.Rows.{next_left, none_left}
@@ -38,7 +38,7 @@ few k found l = rw (length_counted 0 k) at l
 -- b is whether event a, the next one, makes the profile t of what was read
 returned : (m : Model) → Unrefused eight m → (x : Before) (a : ℕ) → a < m.k → {event y : code.Profile} (t : Profile) {b : Bool}
     → profile event ≡ event_value (get_or m.arrows a 0) m.home → profile y ≡ next_value x event → b ≡ same_profile (profile y) t
-    → b ≡ same_profile (next_profile 8 (machine 8 m) (beforeOf x) a) t
+    → b ≡ same_profile (next_profile 8 (machine 8 m) (before_of x) a) t
 unfolding profile_value
 returned m u x a l t made joined same =
     same ∙ ap (λ y. same_profile y t) (next_value_is (machine 8 m) a x (made ∙ event_value_is m u a l) joined)

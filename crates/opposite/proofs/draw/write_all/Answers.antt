@@ -18,8 +18,8 @@ slice_bounds-show-end-4 c =
 pub show-requires : goal.show-requires
 show-requires c =
     let s = note 8 _ _ _ _ _ c.requires.marks_len c.requires.fitting c.shown_profiles-profiles.ensures refl in
-    let arrows-long = sym (length-take-le _ c.args.arrows.now s.within) in
-    (length-take-le _ _ (omega (arith, s.within)) ∙ arrows-long, length-take-le _ _ (noted_room s) ∙ arrows-long)
+    let arrows_long = sym (length-take-le _ c.args.arrows.now s.within) in
+    (length-take-le _ _ (omega (arith, s.within)) ∙ arrows_long, length-take-le _ _ (noted_room s) ∙ arrows_long)
 
 pub slice_bounds-sets-end : goal.slice_bounds-sets-end
 slice_bounds-sets-end c =

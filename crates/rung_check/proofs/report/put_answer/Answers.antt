@@ -24,27 +24,27 @@ lines answer memory = answer_lines (told answer).number (told answer).sets (told
 
 module _ (memory : List ℕ) {old new : List ℕ} {r : ℕ} where
   -- and its lines are those of the answer
-  case-lines : {answer case : Answer} → answer ≡ case → Puts (lines case memory) old 0 new r → Puts (lines answer memory) old 0 new r
-  case-lines e = subst (λ a. Puts (lines a memory) old 0 new r) (sym e)
+  case_lines : {answer case : Answer} → answer ≡ case → Puts (lines case memory) old 0 new r → Puts (lines answer memory) old 0 new r
+  case_lines e = subst (λ a. Puts (lines a memory) old 0 new r) (sym e)
 
-  refused-lines : (number sets profiles : ℕ) → Puts (count_line refused_text number) old 0 new r
+  refused_lines : (number sets profiles : ℕ) → Puts (count_line refused_text number) old 0 new r
       → Puts (lines (Refused number sets profiles) memory) old 0 new r
   unfolding told given answer_lines
-  refused-lines number sets profiles put = put
+  refused_lines number sets profiles put = put
 
   module _ (sets profiles : ℕ) {mid : List ℕ} {e : ℕ}
       (counts : Puts (count_line sets_text sets ++ count_line profiles_text profiles) old 0 mid e) where
-    covered-lines : Puts (covered_text ++ line_end) mid e new r → Puts (lines (Covered sets profiles) memory) old 0 new r
+    covered_lines : Puts (covered_text ++ line_end) mid e new r → Puts (lines (Covered sets profiles) memory) old 0 new r
     unfolding told given answer_lines verdict_lines
-    covered-lines put = puts_both counts put
+    covered_lines put = puts_both counts put
 
     -- u is behind "uncovered", and v behind u
-    uncovered-lines : (u v : ℕ) {mid' mid'' : List ℕ} {e' e'' : ℕ} → Puts (uncovered_text ++ line_end) mid e mid' e'
+    uncovered_lines : (u v : ℕ) {mid' mid'' : List ℕ} {e' e'' : ℕ} → Puts (uncovered_text ++ line_end) mid e mid' e'
         → Puts (word_line 117 (take (u - 0) (drop 0 memory))) mid' e' mid'' e''
         → Puts (word_line 118 (take (u + v - u) (drop u memory))) mid'' e'' new r
         → Puts (lines (Uncovered sets profiles u v) memory) old 0 new r
     unfolding told given answer_lines verdict_lines
-    uncovered-lines u v text first second =
+    uncovered_lines u v text first second =
         puts_both counts
         (puts_both (puts_both text (rw sub-zero at first)) (rw add-sub_cancel_left at second))
 
@@ -72,14 +72,14 @@ put_word-requires c =
 
 pub returns-in-Covered : goal.returns-in-Covered
 returns-in-Covered c =
-    case-lines _ c.in-Covered.is (covered-lines _ _ _ c.put_counts-end.ensures c.put_text.ensures)
+    case_lines _ c.in-Covered.is (covered_lines _ _ _ c.put_counts-end.ensures c.put_text.ensures)
 
 pub returns-in-Uncovered : goal.returns-in-Uncovered
 returns-in-Uncovered c =
-    case-lines _ c.in-Uncovered.is
-    (uncovered-lines _ _ _ c.put_counts-end-in-Uncovered.ensures _ _ c.put_text-end.ensures c.put_word-end.ensures
+    case_lines _ c.in-Uncovered.is
+    (uncovered_lines _ _ _ c.put_counts-end-in-Uncovered.ensures _ _ c.put_text-end.ensures c.put_word-end.ensures
     c.put_word.ensures)
 
 pub returns-in-Refused : goal.returns-in-Refused
 returns-in-Refused c =
-    case-lines _ c.in-Refused.is (refused-lines _ _ _ _ c.put_count.ensures)
+    case_lines _ c.in-Refused.is (refused_lines _ _ _ _ c.put_count.ensures)
