@@ -7,8 +7,8 @@
  *
  * Link target/staticlib/libeditor.a (x86-64 Linux), which ./build-library proves and writes. The calls take any numbers and slices
  * of any length, refuse what they cannot check, and always return. They keep no pointer and allocate nothing. For the verdict a word is
- * rebuilt by a call for each of its letters, 64 bytes of stack each as it is built now: with words of up to 2,048 letters that is up to
- * 128 KiB.
+ * rebuilt by a call for each of its letters, of which there are up to 2,048. Built by the older kit, rattle-kit-5b, each took 64 bytes of
+ * stack, so all of them up to 128 KiB; as it is built now the compiler makes loops of these calls.
  *
  * What the caller sees to. Each slice is a pointer and, behind it, how many elements stand there (elements, not bytes). The pointer is not
  * NULL and is aligned for its element, also where the length is 0. The slices that are written overlap neither each other nor one that is read.
