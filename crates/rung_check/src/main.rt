@@ -1,7 +1,8 @@
 // Reads one model file from standard input and prints the verdict, or the refusal.
 #![tactic(auto)]
 
-ghost use Rattle.std.specs.Prelude.{◌≤◌, length};
+ghost use Rattle.std.specs.Prelude.{◌≤◌, length, take};
+ghost use Rattle.std.specs.Io.KnownBytes.{Consumes};
 
 mod report;
 mod text;
@@ -17,9 +18,11 @@ const MOST_BYTES: usize = 212;
 // More than a longest report has: `printed_short` says so.
 const MOST_TEXT: usize = 8192;
 
-// Reads until the slice is full or the input ends, and says how many bytes were read. A read that fails counts as the file's end.
+// Reads until the slice is full or the input ends, and says how many bytes were read: those that the input lost stand first in the slice.
+// A read that fails counts as the file's end.
 fn read_start<R: Read>(input: &mut R, file: &mut [u8]) -> usize
-    ensures { result ≤ length file.new }
+    ensures within { result ≤ length file.new }
+    ensures bytes { Consumes (R.remaining input.old) (R.remaining input.new) (take result file.new) }
 {
     let mut count = 0;
     while count < file.len() {
