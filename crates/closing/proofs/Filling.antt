@@ -7,36 +7,29 @@ use native.Mathlib.Omega.{arith}
 use mathlib.Core.Path.{◌≡◌, refl, sym, ap, ◌∙◌}
 use mathlib.Core.Bool.{Bool, true, false}
 use mathlib.Core.Logic.{⊎_elim}
-use mathlib.Core.Option.{Option, some}
+use mathlib.Core.Option.{Option, none, some}
 use mathlib.Core.List.{List, [], ◌∷◌, ◌++◌}
-use lib.ListN.{length, get_elem?}
+use lib.ListN.{length}
 use lib.Dec.{T, ltb}
 use mir.Syntax.{w64}
 use mir.Val.{Fits}
 use mir.Facts.{Fits-below}
-use borrow.Author.Tests.{lt-ltb, le-ltb, ltb-true, ltb-false}
-use Rattle.laws.specs.Tables.{WordValue, Entry, Table, stored, enter, through_events, through_entries}
-use Rattle.laws.proofs.Booleans.{same_test, either, never}
-use Rattle.laws.proofs.Places.{element, place_below, past_end, length_one_more}
+use borrow.Author.Tests.{lt-ltb, le-ltb}
+use Rattle.std.proofs.Common.{Result, Ok, Err, IsErr, IsErrAnd}
+use Rattle.std.proofs.lemmas.Result.{err_from_is_err_and}
+use Rattle.laws.specs.Tables.{WordValue, Entry, Table, no_entry, no_event, stored, enter, through_events, through_entries, begun}
+use Rattle.laws.proofs.Booleans.{inside, either, never}
+use Rattle.laws.proofs.Places.{place_below, past_end, length_one_more}
 use Rattle.laws.proofs.Members.{member, stands_in, some_member, member_some}
 use Rattle.laws.proofs.Entering.{Entered, there, new, full, entered, enter_still, events_still, entries_end, entries_on, entries_still}
-use Rattle.closing.specs.Search.{FirstPlace}
+use Rattle.closing.specs.Rows.{Layout}
 use Rattle.closing.specs.Memory.{going, Fills}
-use Rattle.closing.specs.declared.table.Filled.{Filled}
+use Rattle.closing.specs.declared.table.Full.{Full}
 
--- WHAT SLICES ARE TO A TABLE: how entries are written to them and read back, and what a caller has seen to
-pub record Layout {Value Slices : Type 0} (write : List (Entry Value) → Slices → Slices) (read : Slices → ℕ → List (Entry Value))
-    (Lent : Slices → ℕ → ℕ → Type 0) : Type 0 where
-  -- writing again, and no fewer entries, is writing at once
-  pub again : (ds es : List (Entry Value)) (l : Slices) → length ds ≤ length es → write es (write ds l) ≡ write es l
-  -- what was written is read
-  pub back : (es : List (Entry Value)) (l : Slices) → read (write es l) (length es) ≡ es
-  -- and writing what is read changes nothing
-  pub same : (l : Slices) (n room : ℕ) → Lent l n room → write (read l n) l ≡ l
-  pub counted : (l : Slices) (n : ℕ) → length (read l n) ≡ n
-  -- there is room, and there still is after writing within it
-  pub within : (l : Slices) (n room : ℕ) → Lent l n room → n ≤ room
-  pub lent : (es : List (Entry Value)) (l : Slices) (n room : ℕ) → Lent l n room → length es ≤ room → Lent (write es l) (length es) room
+-- a list of no entries
+no_entries : {Value : Type 0} {es : List (Entry Value)} → length es ≡ 0 → es ≡ []
+no_entries {es = []} h = refl
+no_entries {es = e ∷ es} h = absurd (omega arith)
 
 -- a turn of a loop that has come to one of n places in the room brings its end nearer
 pub nearer : (i : ℕ) {n room : ℕ} → i < n → n ≤ room → room - (i + 1) < room - i
@@ -46,13 +39,9 @@ nearer i h l = omega arith
 pub counts_on : (i : ℕ) {n room limit : ℕ} → i < n → n ≤ room → room ≤ limit → T (ltb limit (2 ^ 64)) → Fits w64 (i + 1)
 counts_on i {limit = limit} h l limited small = Fits-below {n = limit} small (omega arith)
 
--- n entries, and the table is not cut
-abbrev pub filled : ℕ → Filled
-filled n = record { count = n; cut = false }
-
 -- WHERE A LOOP STANDS: the slices were old and are now filled by the n entries es
 abbrev pub Going : {Value Slices : Type 0} → (List (Entry Value) → Slices → Slices) → ℕ → Slices → Slices → ℕ → List (Entry Value) → Type 0
-Going write room old now n es = Fills write room (going es) old now (filled n)
+Going write room old now n es = Fills write room (going es) old now (Ok n)
 
 module _ {Value : Type 0} (Val : WordValue Value) (room : ℕ) where
   longer : {e : Entry Value} {t t' : Table Value} → Entered Val room e t t' → length t.entries ≤ length t'.entries
@@ -74,90 +63,24 @@ module _ {Value : Type 0} (Val : WordValue Value) (room : ℕ) where
       let e : Entry Value = record { value = Val.next x a; from = i; event = a } in
       omega (arith, enter_longer e t, events_longer i x d (suc a) (enter Val room e t))
 
--- the first place of a value among n entries is below n exactly if the value is among them
-first_stored : {Value : Type 0} (Val : WordValue Value) (x : Value) (es : List (Entry Value)) {n : ℕ} → length es ≡ n
-    → {test : ℕ → Bool} {r : ℕ} → FirstPlace test n r
-    → ((i : ℕ) (e : Entry Value) → get_elem? es i ≡ some e → Val.same e.value x ≡ test i) → stored Val x es ≡ ltb r n
-unfolding stored
-first_stored Val x es {n} l {test} {r} f same =
-    same_test
-    (λ h.
-    let (e, m, s) = some_member (λ e. Val.same e.value x) es h in
-    let (i, at) = stands_in m in
-    ⊎_elim (λ p. p)
-    (λ p. never (sym (f.none_before i (omega (arith, ltb-false r n p, place_below es i at))) ∙ sym (same i e at) ∙ s))
-    (either (ltb r n)))
-    (λ h.
-    let p = ltb-true r n h in
-    let (e, at) = element es r (omega arith) in
-    member_some (λ e. Val.same e.value x) (member es (r, at)) (same r e at ∙ f.there p))
-
-module _ {Value Slices : Type 0} {write : List (Entry Value) → Slices → Slices} {room : ℕ} {t : Table Value} {old now : Slices}
-    {answer : Filled} (f : Fills write room t old now answer) where
+module _ {Value Slices : Type 0} {write : List (Entry Value) → Slices → Slices} {room : ℕ} {t : Table Value} {old now : Slices} where
   -- where filling cut the table, and what is still to do leaves a cut table as it is, the whole table is filled
-  pub stopped : {whole : Table Value} → (t.cut ≡ true → whole ≡ t) → answer.cut ≡ true → Fills write room whole old now answer
-  stopped still c = rw (still (sym f.cut ∙ c)) f
+  pub stopped : {full : Full} {whole : Table Value} → Fills write room t old now (Err full) → (t.cut ≡ true → whole ≡ t)
+      → Fills write room whole old now (Err full)
+  stopped f still = rw (still (sym f.cut)) f
 
-  -- where it did not, a loop goes on
-  pub uncut : answer.cut ≡ false → t ≡ going t.entries
-  uncut c = ap (λ (b : Bool). record { entries = t.entries; cut = b }) (sym f.cut ∙ c)
+  -- as it is passed on
+  pub passed_on : (answer : Result ℕ Full) {full : Full} → IsErr answer × IsErrAnd answer (λ e. e ≡ full)
+      → Fills write room t old now (Err full) → Fills write room t old now answer
+  passed_on answer h f = let p = err_from_is_err_and answer h.1 in rw (p.1, p.2) f
 
-  pub goes : Going write room old now answer.count t.entries
-  goes = record { slices = f.slices; count = f.count; cut = refl; within = f.within }
+  module _ {n : ℕ} (f : Fills write room t old now (Ok n)) where
+    -- where it did not, a loop goes on
+    uncut : t ≡ going t.entries
+    uncut = ap (λ (b : Bool). record { entries = t.entries; cut = b }) (sym f.cut)
 
-module _ {Value Slices : Type 0} {write : List (Entry Value) → Slices → Slices} {read : Slices → ℕ → List (Entry Value)}
-    {Lent : Slices → ℕ → ℕ → Type 0} (L : Layout write read Lent) where
-  -- where a loop begins
-  pub start : {room : ℕ} {l : Slices} {n : ℕ} → Lent l n room → Going write room l l n (read l n)
-  start {room} {l} {n} h =
-      record { slices = sym (L.same l n room h); count = sym (L.counted l n); cut = refl; within = L.within l n room h }
-
-  module _ {room : ℕ} {old now : Slices} {n : ℕ} {es : List (Entry Value)} (g : Going write room old now n es) where
-    -- what is read there are the entries written
-    entries_read : read now n ≡ es
-    entries_read = rw (g.slices, g.count) (L.back es old)
-
-    -- there is room in the slices as they are now
-    pub still_lent : {m : ℕ} → Lent old m room → Lent now n room
-    still_lent {m} h = rw (g.slices, g.count) (L.lent es old m room h (omega (arith, g.count, g.within)))
-
-    -- filling the slices as they are now fills them as they were
-    onward : {t : Table Value} {new : Slices} {answer : Filled} → length es ≤ length t.entries → Fills write room t now new answer
-        → Fills write room t old new answer
-    onward {t} h f =
-        record {
-          slices = f.slices ∙ ap (write t.entries) g.slices ∙ L.again es t.entries old h;
-          count = f.count;
-          cut = f.cut;
-          within = f.within;
-        }
-
-  -- ENTERING ONE ENTRY e into slices that are lent: r is the first place of its value among the entries that are read there, or n
-  module _ (Val : WordValue Value) {room : ℕ} {l : Slices} {n : ℕ} (h : Lent l n room) (e : Entry Value) {test : ℕ → Bool} {r : ℕ}
-      (f : FirstPlace test n r)
-      (same : (i : ℕ) (d : Entry Value) → get_elem? (read l n) i ≡ some d → Val.same d.value e.value ≡ test i) where
-    first : stored Val e.value (read l n) ≡ ltb r n
-    first = first_stored Val e.value (read l n) (L.counted l n) f same
-
-    -- the value is there
-    pub fills_there : r < n → Fills write room (enter Val room e (going (read l n))) l l (filled n)
-    unfolding enter
-    fills_there p = rw (first ∙ lt-ltb r n p) (start h)
-
-    -- it is new, and there is no room
-    pub fills_full : n ≤ r → room ≤ n → Fills write room (enter Val room e (going (read l n))) l l (record { count = n; cut = true })
-    unfolding enter
-    fills_full p q =
-        rw (first ∙ le-ltb r n p, le-ltb (length (read l n)) room (omega (arith, L.counted l n)))
-        (record { slices = (start h).slices; count = (start h).count; cut = refl; within = (start h).within })
-
-    -- it is new, and there is room
-    pub fills_new : {now : Slices} → n ≤ r → n < room → now ≡ write (read l n ++ (e ∷ [])) l
-        → Fills write room (enter Val room e (going (read l n))) l now (filled (n + 1))
-    unfolding enter
-    fills_new p q w =
-        rw (first ∙ le-ltb r n p, lt-ltb (length (read l n)) room (omega (arith, L.counted l n)))
-        (record { slices = w; count = omega (arith, length_one_more (read l n) e, L.counted l n); cut = refl; within = omega arith })
+    pub goes : Going write room old now n t.entries
+    goes = record { slices = f.slices; count = f.count; cut = refl; within = f.within }
 
 -- THE LOOP OVER EVENTS, at event a of k: what the events from a on make of the entries so far is the whole table
 pub record ByEvents {Value Slices : Type 0} (Val : WordValue Value) (write : List (Entry Value) → Slices → Slices) (room i : ℕ)
@@ -165,7 +88,6 @@ pub record ByEvents {Value Slices : Type 0} (Val : WordValue Value) (write : Lis
   pub es : List (Entry Value)
   pub stands : Going write room old now n es
   pub rest : through_events Val room i x (k - a) a (going es) ≡ whole
-  pub at_most : a ≤ k
 
 -- THE LOOP OVER ENTRIES, at entry number i: what the entries from i on lead to is the whole table
 pub record ByEntries {Value Slices : Type 0} (Val : WordValue Value) (write : List (Entry Value) → Slices → Slices) (k room : ℕ)
@@ -175,109 +97,190 @@ pub record ByEntries {Value Slices : Type 0} (Val : WordValue Value) (write : Li
   pub rest : through_entries Val k room (room - i) i (going es) ≡ whole
   pub at_most : i ≤ n
 
--- HOW FAR IT CAME since it began: whatever table was to be made from there is still to be made from where it stands
-pub record Since {Value Slices : Type 0} (Val : WordValue Value) (write : List (Entry Value) → Slices → Slices) (k room : ℕ)
-    (begun now : Slices) (first n i : ℕ) : Type 0 where
-  pub on : (old : Slices) (whole : Table Value) → ByEntries Val write k room whole old begun first 0
-      → ByEntries Val write k room whole old now n i
-
 module _ {Value Slices : Type 0} {write : List (Entry Value) → Slices → Slices} {read : Slices → ℕ → List (Entry Value)}
-    {Lent : Slices → ℕ → ℕ → Type 0} (L : Layout write read Lent) (Val : WordValue Value) {room : ℕ} where
-  -- the loop over events begins
-  pub events_begin : (i : ℕ) (x : Option Value) {k : ℕ} {l : Slices} {n : ℕ} → Lent l n room
-      → ByEvents Val write room i x k (through_events Val room i x k 0 (going (read l n))) l l n 0
-  events_begin i x {l = l} {n} h = record { es = read l n; stands = start L h; rest = rw sub-zero; at_most = omega arith }
+    {at : Slices → ℕ → Entry Value} {room_for : Slices → ℕ} (L : Layout write read at room_for) where
+  -- the value is among the entries read exactly if it stands in one of their places
+  module _ (Val : WordValue Value) (x : Value) (l : Slices) (n : ℕ) where
+    stored_at : (i : ℕ) → i < n → Val.same (at l i).value x ≡ true → stored Val x (read l n) ≡ true
+    unfolding stored
+    stored_at i h same = member_some (λ e. Val.same e.value x) (member (read l n) (i, L.each l n i h)) same
 
-  module _ {i : ℕ} {x : Option Value} {k : ℕ} {whole : Table Value} {old now : Slices} {n a : ℕ}
-      (s : ByEvents Val write room i x k whole old now n a) where
-    -- it ends
-    pub events_done : k ≤ a → Fills write room whole old now (filled n)
-    unfolding through_events
-    events_done h =
-        let none_left : k - a ≡ 0 = omega arith in
-        rw (← (rw none_left at s.rest)) s.stands
+    stored_nowhere : ((i : ℕ) → i < n → Val.same (at l i).value x ≡ false) → stored Val x (read l n) ≡ false
+    unfolding stored
+    stored_nowhere nowhere =
+        ⊎_elim
+        (λ h.
+        let (e, m, s) = some_member (λ e. Val.same e.value x) (read l n) h in
+        let (i, place) = stands_in m in
+        let below : i < n = omega (arith, place_below (read l n) i place, L.counted l n) in
+        never (sym (nowhere i below) ∙ ap (λ e. Val.same e.value x) (inside (sym (L.each l n i below) ∙ place)) ∙ s))
+        (λ p. p) (either (stored Val x (read l n)))
 
-    -- a turn, in which v, what event a makes of x, is entered
-    module _ (h : a < k) {new : Slices} {v : Value} {answer : Filled} (v_is : v ≡ Val.next x a)
-        (f : Fills write room (enter Val room (record { value = v; from = i; event = a }) (going (read now n))) now new answer) where
-      abbrev with_a : Table Value
-      with_a = enter Val room (record { value = Val.next x a; from = i; event = a }) (going s.es)
+    pub is_stored : (found : Bool) → (found ≡ true → (i : ℕ) × (i < n) × (Val.same (at l i).value x ≡ true))
+        → (found ≡ false → (i : ℕ) → i < n → Val.same (at l i).value x ≡ false) → found ≡ stored Val x (read l n)
+    is_stored true somewhere nowhere = let (i, h, same) = somewhere refl in sym (stored_at i h same)
+    is_stored false somewhere nowhere = sym (stored_nowhere (nowhere refl))
 
-      fills_a : Fills write room with_a old new answer
-      fills_a = onward L s.stands (enter_longer Val room _ (going s.es)) (rw (v_is, entries_read L s.stands) at f)
+  -- where a loop begins
+  start : {l : Slices} {n : ℕ} → n ≤ room_for l → Going write (room_for l) l l n (read l n)
+  start {l} {n} h = record { slices = sym (L.same l n h); count = sym (L.counted l n); cut = refl; within = h }
 
-      rest_a : through_events Val room i x (k - suc a) (suc a) with_a ≡ whole
+  module _ {old now : Slices} {n : ℕ} {es : List (Entry Value)} (g : Going write (room_for old) old now n es) where
+    -- what is read there are the entries written
+    entries_read : read now n ≡ es
+    entries_read = rw (g.slices, g.count) (L.back es old)
+
+    -- there is as much room as there was
+    pub room_still : room_for now ≡ room_for old
+    room_still = rw g.slices (L.room_kept es old (omega (arith, g.count, g.within)))
+
+    -- filling the slices as they are now fills them as they were
+    onward : {t : Table Value} {new : Slices} {answer : Result ℕ Full} → length es ≤ length t.entries
+        → Fills write (room_for old) t now new answer → Fills write (room_for old) t old new answer
+    onward {t} h f =
+        record {
+          slices = f.slices ∙ ap (write t.entries) g.slices ∙ L.again es t.entries old h;
+          count = f.count;
+          cut = f.cut;
+          within = f.within;
+        }
+
+  -- ENTERING ONE ENTRY e
+  module _ (Val : WordValue Value) {l : Slices} {n : ℕ} (h : n ≤ room_for l) (e : Entry Value) where
+    -- the value is there
+    pub fills_there : stored Val e.value (read l n) ≡ true → Fills write (room_for l) (enter Val (room_for l) e (going (read l n))) l l (Ok n)
+    unfolding enter
+    fills_there p = rw p (start h)
+
+    -- it is new, and there is no room
+    pub fills_full : stored Val e.value (read l n) ≡ false → room_for l ≤ n
+        → Fills write (room_for l) (enter Val (room_for l) e (going (read l n))) l l (Err (record { count = n }))
+    unfolding enter
+    fills_full p q =
+        rw (p, le-ltb (length (read l n)) (room_for l) (omega (arith, L.counted l n)))
+        (record { slices = (start h).slices; count = (start h).count; cut = refl; within = h })
+
+    -- it is new, and there is room
+    pub fills_new : {now : Slices} → stored Val e.value (read l n) ≡ false → n < room_for l → now ≡ write (read l n ++ (e ∷ [])) l
+        → Fills write (room_for l) (enter Val (room_for l) e (going (read l n))) l now (Ok (n + 1))
+    unfolding enter
+    fills_new p q w =
+        rw (p, lt-ltb (length (read l n)) (room_for l) (omega (arith, L.counted l n)))
+        (record { slices = w; count = omega (arith, length_one_more (read l n) e, L.counted l n); cut = refl; within = omega arith })
+
+  -- where no entry is read, none stands there
+  none_read : (l : Slices) → read l 0 ≡ []
+  none_read l = no_entries (L.counted l 0)
+
+  module _ (Val : WordValue Value) where
+    -- the table begins with what the events make of the empty word where that has no value, and otherwise with its value
+    module _ {first : Option Value} (k : ℕ) {old new : Slices} {answer : Result ℕ Full} where
+      pub begun_by_events : none ≡ first
+          → Fills write (room_for old) (through_events Val (room_for old) no_entry none k 0 (going (read old 0))) old new answer
+          → Fills write (room_for old) (begun Val k (room_for old) first) old new answer
+      unfolding begun
+      begun_by_events is f = rw (← is) (rw (none_read old) at f)
+
+      pub begun_by_value : {x : Value} → some x ≡ first
+          → Fills write (room_for old) (enter Val (room_for old) (record { value = x; from = no_entry; event = no_event }) (going (read old 0))) old
+          new answer → Fills write (room_for old) (begun Val k (room_for old) first) old new answer
+      unfolding begun
+      begun_by_value is f = rw (← is) (rw (none_read old) at f)
+
+    module _ {i : ℕ} {x : Option Value} {k : ℕ} {whole : Table Value} {old now : Slices} {n a : ℕ}
+        (s : ByEvents Val write (room_for old) i x k whole old now n a) where
+      -- it ends
+      pub events_done : k ≤ a → Fills write (room_for old) whole old now (Ok n)
       unfolding through_events
-      rest_a = let one_more : k - a ≡ suc (k - suc a) = omega arith in rw one_more at s.rest
+      events_done h =
+          let none_left : k - a ≡ 0 = omega arith in
+          rw (← (rw none_left at s.rest)) s.stands
+
+      -- a turn, in which v, what event a makes of x, is entered
+      module _ (h : a < k) {new : Slices} {v : Value} {answer : Result ℕ Full} (v_is : v ≡ Val.next x a)
+          (f : Fills write (room_for now) (enter Val (room_for now) (record { value = v; from = i; event = a }) (going (read now n))) now new answer) where
+        abbrev with_a : Table Value
+        with_a = enter Val (room_for old) (record { value = Val.next x a; from = i; event = a }) (going s.es)
+
+        fills_a : Fills write (room_for old) with_a old new answer
+        fills_a =
+            onward s.stands (enter_longer Val (room_for old) _ (going s.es))
+            (rw (v_is, entries_read s.stands, room_still s.stands) at f)
+
+        rest_a : through_events Val (room_for old) i x (k - suc a) (suc a) with_a ≡ whole
+        unfolding through_events
+        rest_a = let one_more : k - a ≡ suc (k - suc a) = omega arith in rw one_more at s.rest
 
       -- it cuts the table, which is then the whole
-      pub events_cut : answer.cut ≡ true → Fills write room whole old new answer
-      events_cut = stopped fills_a (λ c. sym rest_a ∙ events_still Val room i x (k - suc a) (suc a) with_a c)
+      pub events_cut : (h : a < k) {new : Slices} {v : Value} {full : Full} → v ≡ Val.next x a
+          → Fills write (room_for now) (enter Val (room_for now) (record { value = v; from = i; event = a }) (going (read now n))) now new (Err full)
+          → Fills write (room_for old) whole old new (Err full)
+      events_cut h v_is f =
+          stopped (fills_a h v_is f) (λ c. sym (rest_a h v_is f) ∙ events_still Val (room_for old) i x (k - suc a) (suc a) (with_a h v_is f) c)
 
       -- or the loop goes on
-      pub events_next : answer.cut ≡ false → ByEvents Val write room i x k whole old new answer.count (a + 1)
-      events_next c =
-          record { es = with_a.entries; stands = goes fills_a; rest = rw (add-one, ← uncut fills_a c) rest_a; at_most = omega arith }
-
-  -- the loop over entries begins where the first values were entered
-  module _ (k : ℕ) {t : Table Value} {old begun : Slices} {first : Filled} (b : Fills write room t old begun first) where
-    -- unless these cut the table, which is then the whole
-    pub begin_cut : first.cut ≡ true → Fills write room (through_entries Val k room room 0 t) old begun first
-    begin_cut = stopped b (entries_still Val k room room 0 t)
-
-    entries_begin : first.cut ≡ false → ByEntries Val write k room (through_entries Val k room room 0 t) old begun first.count 0
-    entries_begin c = record { es = t.entries; stands = goes b; rest = rw (sub-zero, ← uncut b c); at_most = omega arith }
-
-  -- a turn, in which what the events make of v, the value of entry number i, is entered
-  module _ {k : ℕ} {begun now : Slices} {start n i : ℕ} (w : Since Val write k room begun now start n i) (h : i < n) {new : Slices}
-      {v : Value} {answer : Filled} (e : Entry Value) (at : get_elem? (read now n) i ≡ some e) (v_is : v ≡ e.value)
-      (f : Fills write room (through_events Val room i (some v) k 0 (going (read now n))) now new answer) where
-    module _ {whole : Table Value} {old : Slices} (b : ByEntries Val write k room whole old begun start 0) where
-      abbrev at_i : ByEntries Val write k room whole old now n i
-      at_i = w.on old whole b
-
-      abbrev with_i : Table Value
-      with_i = through_events Val room i (some e.value) k 0 (going at_i.es)
-
-      longer_i : length at_i.es ≤ length with_i.entries
-      longer_i = events_longer Val room i (some e.value) k 0 (going at_i.es)
-
-      fills_i : Fills write room with_i old new answer
-      fills_i = onward L at_i.stands longer_i (rw (v_is, entries_read L at_i.stands) at f)
-
-      rest_i : through_entries Val k room (room - suc i) (suc i) with_i ≡ whole
-      rest_i =
-          let one_more : room - i ≡ suc (room - suc i) = omega (arith, at_i.stands.within) in
-          sym (entries_on Val k room (room - suc i) i (going at_i.es) e (rw (entries_read L at_i.stands) at at))
-          ∙ rw one_more at at_i.rest
-
-      next_i : answer.cut ≡ false → ByEntries Val write k room whole old new answer.count (i + 1)
-      next_i c =
+      pub events_next : (h : a < k) {new : Slices} {v : Value} {m : ℕ} → v ≡ Val.next x a
+          → Fills write (room_for now) (enter Val (room_for now) (record { value = v; from = i; event = a }) (going (read now n))) now new (Ok m)
+          → ByEvents Val write (room_for old) i x k whole old new m (a + 1)
+      events_next h v_is f =
           record {
-            es = with_i.entries;
-            stands = goes fills_i;
-            rest = rw (add-one, ← uncut fills_i c) rest_i;
-            at_most = omega (arith, longer_i, fills_i.count, at_i.stands.count);
+            es = (with_a h v_is f).entries;
+            stands = goes (fills_a h v_is f);
+            rest = rw (add-one, ← uncut (fills_a h v_is f)) (rest_a h v_is f);
           }
 
-    -- the loop goes on
-    pub entries_next : answer.cut ≡ false → Since Val write k room begun new start answer.count (i + 1)
-    entries_next c = record { on = λ old whole b. next_i b c }
+    -- the loop over entries begins where the first values were entered, unless these cut the table, which is then the whole
+    pub begin_cut : (k : ℕ) {t : Table Value} {old begun : Slices} {full : Full} → Fills write (room_for old) t old begun (Err full)
+        → Fills write (room_for old) (through_entries Val k (room_for old) (room_for old) 0 t) old begun (Err full)
+    begin_cut k {t} {old} b = stopped b (entries_still Val k (room_for old) (room_for old) 0 t)
 
-  module _ {k : ℕ} {begun now : Slices} {n i : ℕ} {first : Filled} (w : Since Val write k room begun now first.count n i)
-      {t : Table Value} {old : Slices} (b : Fills write room t old begun first) (c : first.cut ≡ false) where
-    -- it ends
-    pub entries_done : n ≤ i → Fills write room (through_entries Val k room room 0 t) old now (filled n)
-    entries_done h =
-        let s = w.on _ _ (entries_begin k b c) in
-        let none_left = past_end s.es i (omega (arith, s.stands.count)) in
-        rw (← s.rest, entries_end Val k room (room - i) i (going s.es) none_left) s.stands
+    pub entries_begin : (k : ℕ) {t : Table Value} {old begun : Slices} {n : ℕ} → Fills write (room_for old) t old begun (Ok n)
+        → ByEntries Val write k (room_for old) (through_entries Val k (room_for old) (room_for old) 0 t) old begun n 0
+    entries_begin k {t} b = record { es = t.entries; stands = goes b; rest = rw (sub-zero, ← uncut b); at_most = omega arith }
 
-    -- or a turn cuts the table, which is then the whole
-    pub entries_cut : i < n → {new : Slices} {v : Value} {answer : Filled} (e : Entry Value) → get_elem? (read now n) i ≡ some e
-        → v ≡ e.value → Fills write room (through_events Val room i (some v) k 0 (going (read now n))) now new answer → answer.cut ≡ true
-        → Fills write room (through_entries Val k room room 0 t) old new answer
-    entries_cut h e at v_is f =
-        let s = entries_begin k b c in
-        stopped (fills_i w h e at v_is f s)
-        (λ d. sym (rest_i w h e at v_is f s) ∙ entries_still Val k room (room - suc i) (suc i) (with_i w h e at v_is f s) d)
+    module _ {k : ℕ} {whole : Table Value} {old now : Slices} {n i : ℕ} (s : ByEntries Val write k (room_for old) whole old now n i) where
+      -- it ends
+      pub entries_done : n ≤ i → Fills write (room_for old) whole old now (Ok n)
+      entries_done h =
+          let none_left = past_end s.es i (omega (arith, s.stands.count)) in
+          rw (← s.rest, entries_end Val k (room_for old) (room_for old - i) i (going s.es) none_left) s.stands
+
+      -- a turn, in which what the events make of v, the value of entry number i, is entered
+      module _ (h : i < n) {new : Slices} {v : Value} {answer : Result ℕ Full} (v_is : v ≡ (at now i).value)
+          (f : Fills write (room_for now) (through_events Val (room_for now) i (some v) k 0 (going (read now n))) now new answer) where
+        abbrev with_i : Table Value
+        with_i = through_events Val (room_for old) i (some (at now i).value) k 0 (going s.es)
+
+        longer_i : length s.es ≤ length with_i.entries
+        longer_i = events_longer Val (room_for old) i (some (at now i).value) k 0 (going s.es)
+
+        fills_i : Fills write (room_for old) with_i old new answer
+        fills_i = onward s.stands longer_i (rw (v_is, entries_read s.stands, room_still s.stands) at f)
+
+        rest_i : through_entries Val k (room_for old) (room_for old - suc i) (suc i) with_i ≡ whole
+        rest_i =
+            let one_more : room_for old - i ≡ suc (room_for old - suc i) = omega (arith, s.stands.within) in
+            sym (entries_on Val k (room_for old) (room_for old - suc i) i (going s.es) (at now i) (rw (entries_read s.stands) at (L.each now n i h)))
+            ∙ rw one_more at s.rest
+
+      -- it cuts the table, which is then the whole
+      pub entries_cut : (h : i < n) {new : Slices} {v : Value} {full : Full} → v ≡ (at now i).value
+          → Fills write (room_for now) (through_events Val (room_for now) i (some v) k 0 (going (read now n))) now new (Err full)
+          → Fills write (room_for old) whole old new (Err full)
+      entries_cut h v_is f =
+          stopped (fills_i h v_is f)
+          (λ d. sym (rest_i h v_is f) ∙ entries_still Val k (room_for old) (room_for old - suc i) (suc i) (with_i h v_is f) d)
+
+      -- or the loop goes on
+      pub entries_next : (h : i < n) {new : Slices} {v : Value} {m : ℕ} → v ≡ (at now i).value
+          → Fills write (room_for now) (through_events Val (room_for now) i (some v) k 0 (going (read now n))) now new (Ok m)
+          → ByEntries Val write k (room_for old) whole old new m (i + 1)
+      entries_next h v_is f =
+          let longer_now = longer_i h v_is f in
+          let filled = fills_i h v_is f in
+          record {
+            es = (with_i h v_is f).entries;
+            stands = goes filled;
+            rest = rw (add-one, ← uncut filled) (rest_i h v_is f);
+            at_most = omega (arith, longer_now, filled.count, s.stands.count);
+          }

@@ -1,6 +1,7 @@
--- lent slices, a table filled into them, and the two tables
-pub mod Slices
+-- a table filled into slices
 pub mod Filling
+-- the two tables and their slices, for those who read them
+pub mod Slices
 pub mod SetTable
 pub mod ProfileTable
 -- the answer of closing

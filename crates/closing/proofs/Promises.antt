@@ -14,8 +14,7 @@ use Rattle.laws.proofs.Over.{written}
 use Rattle.model.specs.Asked.{asked}
 use Rattle.model.specs.declared.Model.{Model}
 use Rattle.closing.specs.Memory.{SetsLent, ProfilesLent}
-use Rattle.closing.specs.Closing.{Closing, due}
-use Rattle.closing.specs.declared.Closed.{Closed}
+use Rattle.closing.specs.Closing.{Closed, Closing, due}
 use Rattle.closing.proofs.SetTable as of_sets
 use Rattle.closing.proofs.ProfileTable as of_profiles
 
@@ -70,12 +69,12 @@ module _ {m : Model} {arrows : List ℕ} {S S' : SetSlices} {T T' : ProfileSlice
   pub sets_stand : SetsLent S' answer.sets (room_for_sets eight S)
   sets_stand =
       rw (c.set_slices_are, c.sets)
-      ((of_sets.set_layout).lent _ S 0 _ (of_sets.room_lent S refl) (omega (arith, c.sets, sets_within)))
+      (of_sets.still_room _ S (omega (arith, c.sets, sets_within)))
 
   pub profiles_stand : ProfilesLent T' answer.profiles (room_for_profiles eight T)
   profiles_stand =
       rw (c.profile_slices_are, c.profiles)
-      ((of_profiles.profile_layout).lent _ T 0 _ (of_profiles.room_lent T refl) (omega (arith, c.profiles, profiles_within)))
+      (of_profiles.still_room _ T (omega (arith, c.profiles, profiles_within)))
 
   -- and past them no lent slice has changed
   pub sets_kept : Kept answer.sets S.masks S'.masks × Kept answer.sets S.from S'.from

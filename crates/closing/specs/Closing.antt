@@ -1,5 +1,5 @@
 -- What closing a model into lent slices ensures, for every model and every slice: the answer and all memory, and demand 2's list.
-use Rattle.std.specs.Prelude.{◌≡◌, List, ℕ, length}
+use Rattle.std.specs.Prelude.{◌≡◌, List, ℕ, length, Result, Ok, Err}
 use Rattle.laws.specs.Model.{eight, machine}
 use Rattle.laws.specs.Tables.{Entry}
 use Rattle.laws.specs.Profiles as paper
@@ -8,7 +8,20 @@ use Rattle.laws.specs.Answers.{ClosingAnswer, closing_in, closing_of}
 use Rattle.model.specs.Asked.{asked}
 use Rattle.closing.specs.Memory.{sets_in, profiles_in}
 use Rattle.model.specs.declared.Model.{Model}
-use Rattle.closing.specs.declared.Closed.{Closed}
+use Rattle.model.specs.Numbers.{number_of}
+use Rattle.closing.specs.declared.Complete.{Complete}
+use Rattle.closing.specs.declared.Refused.{Refused}
+
+-- what closing tells: document 01's number, and both counts
+pub record Closed : Type 0 where
+  pub number : ℕ
+  pub sets : ℕ
+  pub profiles : ℕ
+
+-- THE NUMBER AND THE VALUES of its answer
+abbrev pub told : Result Complete Refused → Closed
+told (Ok x) = record { number = 0; sets = x.sets; profiles = x.profiles }
+told (Err x) = record { number = number_of x.refusal; sets = x.sets; profiles = x.profiles }
 
 module _ (m : Model) (arrows : List ℕ) where
   -- the entries hold all sets, or all profiles, that words over the model's events have: each once, in document 01's order

@@ -1,11 +1,11 @@
 -- What stands in lent slices: the entries in their first places, what must hold of them before a call, and what filling a table leaves.
-use Rattle.std.specs.Prelude.{ℕ, ◌≤◌, ◌≡◌, false, List, map, length, get_or}
+use Rattle.std.specs.Prelude.{ℕ, ◌≤◌, ◌≡◌, Bool, true, false, Result, Ok, Err, List, map, length, get_or}
 use Rattle.laws.specs.Bits.{counted}
 use Rattle.laws.specs.Model.{eight}
 use Rattle.laws.specs.Tables.{Entry, Table}
 use Rattle.laws.specs.Profiles.{Profile}
 use Rattle.laws.specs.Answers.{SetSlices, ProfileSlices}
-use Rattle.closing.specs.declared.table.Filled.{Filled}
+use Rattle.closing.specs.declared.table.Full.{Full}
 
 -- the slices of a table as one value
 abbrev pub set_memory : List ℕ → List ℕ → List ℕ → SetSlices
@@ -44,11 +44,20 @@ pub record ProfilesLent (l : ProfileSlices) (count room : ℕ) : Type 0 where
   pub event_within : room ≤ length l.event
   pub limit : room ≤ eight.profiles
 
+-- how many entries an answer says there are, and whether it says that there was no room for one more
+abbrev pub counted_in : Result ℕ Full → ℕ
+counted_in (Ok n) = n
+counted_in (Err full) = full.count
+
+abbrev pub is_full : Result ℕ Full → Bool
+is_full (Ok n) = false
+is_full (Err full) = true
+
 -- the table t stands in the slices, which were old and are now new: its entries and then what stood there before; answer says how many
 -- there are, and whether it is cut
 pub record Fills {Value Slices : Type 0} (write : List (Entry Value) → Slices → Slices) (room : ℕ) (t : Table Value) (old new : Slices)
-    (answer : Filled) : Type 0 where
+    (answer : Result ℕ Full) : Type 0 where
   pub slices : new ≡ write t.entries old
-  pub count : answer.count ≡ length t.entries
-  pub cut : answer.cut ≡ t.cut
-  pub within : answer.count ≤ room
+  pub count : counted_in answer ≡ length t.entries
+  pub cut : is_full answer ≡ t.cut
+  pub within : counted_in answer ≤ room

@@ -1,185 +1,92 @@
-// The profiles, closed into four lent slices: a profile's arrows and marks, the number of the profile it came from, and its last event.
-ghost use Rattle.std.specs.Prelude.{ℕ, ◌≤◌, ◌≡◌, length, get_or};
-ghost use Rattle.laws.specs.Model.{Machine, eight, machine};
-ghost use Rattle.laws.specs.Tables.{enter as entered, through_events};
-ghost use Rattle.laws.specs.Profiles.{same_profile, profile_value, profile_table};
-ghost use Rattle.laws.specs.Refusals.{Unrefused};
-ghost use Rattle.laws.specs.Answers.{room_for_profiles, profile_slices};
-ghost use Rattle.model.specs.Asked.{asked};
-ghost use Rattle.profile.specs.Values.{profile, before as before_of};
-ghost use Rattle.closing.specs.Search.{FirstPlace};
-ghost use Rattle.closing.specs.Memory.{profile_memory, profiles_in, going, ProfilesLent, Fills};
+// The profiles: a profile's arrows and marks, the number of the profile it came from, and its last event.
+ghost use Rattle.std.specs.Prelude.{◌<◌, ◌≡◌, [], ◌∷◌, ◌++◌};
+ghost use Rattle.laws.specs.Model.{eight};
+ghost use Rattle.laws.specs.Profiles.{Profile as Paper, profile_value};
+ghost use Rattle.laws.specs.Answers.{ProfileSlices, room_for_profiles, profile_slices};
+ghost use Rattle.profile.specs.Values.{profile};
+ghost use Rattle.closing.specs.Rows.{machine_of, so_far};
+ghost use Rattle.closing.specs.Memory.{profiles_in};
+ghost use Rattle.closing.specs.Lent.{profiles_lent, SameProfiles};
+ghost use Rattle.closing.specs.ProfileRows.{profile_at, profile_layout, profile_tells, same_profiles, same_profiles_on};
 
-use crate::events::profile_of;
-use crate::table::{Filled, NO_ENTRY};
-use model::{Model, least};
-use profile::{Before, Profile, next};
+use crate::memory::ProfileMemory;
+use crate::rows::{Entry, Rows};
+use model::{Checked, Model};
+use profile::{Profile, next, of_event};
 
-// The place of a profile among the first count; count where it is not there.
-fn find(arrows: &[u64], marks: &[u64], count: usize, x: Profile) -> usize
-    requires { (count ≤ length arrows.now) × (count ≤ length marks.now) }
-    ensures { FirstPlace
-        (λ j. same_profile (record { arrows = get_or arrows.now j 0; marks = get_or marks.now j 0 }) (profile x))
-        count result }
-{
-    let mut i = 0;
-    while i < count {
-        if arrows[i] == x.arrows && marks[i] == x.marks {
-            return i;
+impl Rows for ProfileMemory<'_> {
+    type Value = Profile;
+
+    ghost Paper = { Paper };
+
+    ghost paper = { profile };
+
+    ghost values = { profile_value 8 };
+
+    ghost Slices = { ProfileSlices };
+
+    ghost slices = { profiles_lent };
+
+    ghost write = { profile_slices };
+
+    ghost read = { profiles_in };
+
+    ghost at = { profile_at };
+
+    ghost room_for = { room_for_profiles eight };
+
+    ghost Same = { SameProfiles };
+
+    #[tactic(auto, unfolding(laws::specs::Answers::room_for_profiles))]
+    fn room(&self) -> usize {
+        self.arrows
+            .len()
+            .min(self.marks.len())
+            .min(self.from.len().min(self.event.len()))
+            .min(Model::PROFILES)
+    }
+
+    #[tactic(auto, unfolding(laws::specs::Answers::room_for_profiles))]
+    fn value(&self, i: usize) -> Profile {
+        Profile {
+            arrows: self.arrows[i],
+            marks: self.marks[i],
         }
-        i += 1;
     }
-    count
-}
 
-// Enters a profile that is not there yet, or cuts the table where there is no room. Which machine it is does not matter: profiles are
-// only compared.
-fn enter(
-    arrows: &mut [u64],
-    marks: &mut [u64],
-    from: &mut [u16],
-    event: &mut [u8],
-    count: usize,
-    room: usize,
-    x: Profile,
-    origin: u16,
-    last: u8,
-) -> Filled
-    requires { ProfilesLent (profile_memory arrows.old marks.old from.old event.old) count room }
-    ensures { (M : Machine ℕ) → Fills profile_slices room
-        (entered (profile_value 8 M) room (record { value = profile x; from = origin; event = last })
-        (going (profiles_in (profile_memory arrows.old marks.old from.old event.old) count)))
-        (profile_memory arrows.old marks.old from.old event.old)
-        (profile_memory arrows.new marks.new from.new event.new) result }
-{
-    if find(arrows, marks, count, x) < count {
-        return Filled { count, cut: false };
+    #[tactic(auto, unfolding(laws::specs::Answers::room_for_profiles))]
+    fn put(&mut self, count: usize, e: Entry<Profile>)
+        requires { count < room_for_profiles eight (profiles_lent self.old) }
+        ensures stored { profiles_lent self.new ≡ profile_slices (profiles_in (profiles_lent self.old) count
+            ++ (record { value = profile e.value; from = e.from; event = e.event } ∷ [])) (profiles_lent self.old) }
+        ensures same { SameProfiles self.new self.old }
+    {
+        self.arrows[count] = e.value.arrows;
+        self.marks[count] = e.value.marks;
+        self.from[count] = e.from;
+        self.event[count] = e.event;
     }
-    if room <= count {
-        return Filled { count, cut: true };
-    }
-    arrows[count] = x.arrows;
-    marks[count] = x.marks;
-    from[count] = origin;
-    event[count] = last;
-    Filled {
-        count: count + 1,
-        cut: false,
-    }
-}
 
-// Enters what the k events make of one profile, or of the empty word.
-fn by_events(
-    m: Model,
-    lent: &[u64],
-    arrows: &mut [u64],
-    marks: &mut [u64],
-    from: &mut [u16],
-    event: &mut [u8],
-    count: usize,
-    room: usize,
-    x: Before,
-    origin: u16,
-) -> Filled
-    requires unrefused { Unrefused eight (asked m lent.now) }
-    requires profiles_lent { ProfilesLent (profile_memory arrows.old marks.old from.old event.old) count room }
-    ensures { Fills profile_slices room
-        (through_events (profile_value 8 (machine 8 (asked m lent.now))) room origin (before_of x) m.k 0
-        (going (profiles_in (profile_memory arrows.old marks.old from.old event.old) count)))
-        (profile_memory arrows.old marks.old from.old event.old)
-        (profile_memory arrows.new marks.new from.new event.new) result }
-{
-    let mut n = count;
-    let mut a = 0;
-    while a < m.k {
-        let y = next(x, profile_of(m, lent, a));
-        let filled = enter(arrows, marks, from, event, n, room, y, origin, a as u8);
-        if filled.cut {
-            return filled;
-        }
-        n = filled.count;
-        a += 1;
+    // The empty word has no profile.
+    #[tactic(auto, unfolding(laws::specs::Profiles::profile_value, laws::specs::Profiles::word_profile, laws::specs::Profiles::profile_from))]
+    fn of_empty_word(m: Checked) -> Option<Profile>
+        ensures { so_far profile result ≡ (profile_value 8 (machine_of m.entry)).of [] }
+    {
+        None
     }
-    Filled {
-        count: n,
-        cut: false,
-    }
-}
 
-// The room: the least of the slices and the limit.
-fn room_of(arrows: &[u64], marks: &[u64], from: &[u16], event: &[u8]) -> usize
-    ensures { result ≡ room_for_profiles eight
-        (profile_memory arrows.now marks.now from.now event.now) }
-{
-    least(
-        least(
-            least(arrows.len(), marks.len()),
-            least(from.len(), event.len()),
-        ),
-        Model::PROFILES,
-    )
-}
+    fn next(m: Checked, x: Option<Profile>, a: usize) -> Profile
+        requires { a < m.model.k }
+        ensures { profile result ≡ (profile_value 8 (machine_of m.entry)).next (so_far profile x) a }
+    {
+        next(x, of_event(m.arrows[a], m.model.home))
+    }
 
-// Closes the profiles of a model that is not refused.
-pub fn close(
-    m: Model,
-    lent: &[u64],
-    arrows: &mut [u64],
-    marks: &mut [u64],
-    from: &mut [u16],
-    event: &mut [u8],
-) -> Filled
-    requires { Unrefused eight (asked m lent.now) }
-    ensures { Fills profile_slices
-        (room_for_profiles eight (profile_memory arrows.old marks.old from.old event.old))
-        (profile_table 8 (machine 8 (asked m lent.now)) m.k
-        (room_for_profiles eight (profile_memory arrows.old marks.old from.old event.old)))
-        (profile_memory arrows.old marks.old from.old event.old)
-        (profile_memory arrows.new marks.new from.new event.new) result }
-{
-    let room = room_of(arrows, marks, from, event);
-    let first = by_events(
-        m,
-        lent,
-        arrows,
-        marks,
-        from,
-        event,
-        0,
-        room,
-        Before::Nothing,
-        NO_ENTRY,
-    );
-    if first.cut {
-        return first;
-    }
-    let mut n = first.count;
-    let mut i = 0;
-    while i < n {
-        let x = Profile {
-            arrows: arrows[i],
-            marks: marks[i],
-        };
-        let filled = by_events(
-            m,
-            lent,
-            arrows,
-            marks,
-            from,
-            event,
-            n,
-            room,
-            Before::Word(x),
-            i as u16,
-        );
-        if filled.cut {
-            return filled;
-        }
-        n = filled.count;
-        i += 1;
-    }
-    Filled {
-        count: n,
-        cut: false,
-    }
+    ghost layout = { profile_layout };
+
+    ghost tells = { profile_tells };
+
+    ghost itself = { same_profiles };
+
+    ghost chained = { same_profiles_on };
 }

@@ -1,4 +1,6 @@
--- one course: its words read, and what is refused of it
+-- the first refusal of a course
+pub mod Refused
+-- its words read, and judged
 pub mod Judging
 -- what follows from the contract
 pub mod Promises

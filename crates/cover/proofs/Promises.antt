@@ -1,11 +1,12 @@
 -- WHAT FOLLOWS FROM THE CONTRACT OF THE VERDICT: no second result meets it, and what is past u and v stays as it was.
 use Prim.Native.Nat.{ℕ, ◌+◌, ◌≤◌}
 use native.Mathlib.Omega.{arith}
-use mathlib.Core.Path.{◌≡◌, refl, sym, ap, ◌∙◌}
+use mathlib.Core.Path.{◌≡◌, refl, sym, ap, ap₂, ◌∙◌}
 use mathlib.Core.Logic.{⊎_elim}
 use mathlib.Core.List.{List}
 use mathlib.Core.Option.{some}
 use lib.ListN.{length, take, length-append}
+use Rattle.std.proofs.Common.{Result, Ok, Err}
 use Rattle.laws.specs.Model.{eight, machine}
 use Rattle.laws.specs.Profiles as paper
 use Rattle.laws.specs.Answers.{SetSlices, ProfileSlices, room_for_sets, room_for_profiles, closing_in}
@@ -17,10 +18,12 @@ use Rattle.laws.proofs.Theorems.{verdict_is_short}
 use Rattle.model.specs.Asked.{asked}
 use Rattle.model.specs.declared.Model.{Model}
 use Rattle.closing.specs.Closing.{due}
+use Rattle.closing.specs.declared.Refused.{Refused}
 use Rattle.closing.proofs.Promises.{first_k_only, one_closing}
 use Rattle.cover.specs.Verdicts.{told, tells, given, GivesVerdict, due as verdict_due}
 use Rattle.cover.specs.declared.answer.Answer.{Answer}
-use Rattle.cover.specs.declared.answer.Answer.TheVariants.{Covered, Uncovered, Refused}
+use Rattle.cover.specs.declared.answer.Answer.TheVariants.{Covered, Uncovered}
+use Rattle.model.proofs.Numbers.{one_number}
 use Rattle.cover.proofs.Verdicts.{given_is}
 
 -- THE VERDICT reads only the first k numbers of arrows, as closing does
@@ -30,24 +33,30 @@ unfolding verdict_in verdict_answer closing_in
 verdict_first_k m arrows other S T memory here there same =
     ap (λ c. verdict_from 8 c (length memory)) (first_k_only m arrows other S T here there same)
 
+-- a refusal with its counts is these three
+one_refusal : (x y : Refused) → x.refusal ≡ y.refusal → x.sets ≡ y.sets → x.profiles ≡ y.profiles → x ≡ y
+one_refusal x y r s p =
+    ap (λ n. record { refusal = n; sets = x.sets; profiles = x.profiles }) r
+    ∙ ap₂ (λ n k. record { refusal = y.refusal; sets = n; profiles = k }) s p
+
 -- no two answers tell the same
-told_once : (a b : Answer) → told a ≡ told b → a ≡ b
+told_once : (a b : Result Answer Refused) → told a ≡ told b → a ≡ b
 unfolding told
 told_once a b e =
     go a b (ap (λ t. t.covered) e) (ap (λ t. t.number) e) (ap (λ t. t.sets) e) (ap (λ t. t.profiles) e) (ap (λ t. t.u) e)
     (ap (λ t. t.v) e)
   where
-    go : (a b : Answer) → (told a).covered ≡ (told b).covered → (told a).number ≡ (told b).number → (told a).sets ≡ (told b).sets
-        → (told a).profiles ≡ (told b).profiles → (told a).u ≡ (told b).u → (told a).v ≡ (told b).v → a ≡ b
-    go (Covered s p) (Covered t q) c n g h i j = cc
-    go (Covered s p) (Uncovered t q w x) c n g h i j = cc
-    go (Covered s p) (Refused l t q) c n g h i j = cc
-    go (Uncovered s p u v) (Covered t q) c n g h i j = cc
-    go (Uncovered s p u v) (Uncovered t q w x) c n g h i j = cc
-    go (Uncovered s p u v) (Refused l t q) c n g h i j = cc
-    go (Refused k s p) (Covered t q) c n g h i j = cc
-    go (Refused k s p) (Uncovered t q w x) c n g h i j = cc
-    go (Refused k s p) (Refused l t q) c n g h i j = cc
+    go : (a b : Result Answer Refused) → (told a).covered ≡ (told b).covered → (told a).number ≡ (told b).number
+        → (told a).sets ≡ (told b).sets → (told a).profiles ≡ (told b).profiles → (told a).u ≡ (told b).u → (told a).v ≡ (told b).v → a ≡ b
+    go (Ok (Covered s p)) (Ok (Covered t q)) c n g h i j = cc
+    go (Ok (Covered s p)) (Ok (Uncovered t q w x)) c n g h i j = cc
+    go (Ok (Covered s p)) (Err y) c n g h i j = cc
+    go (Ok (Uncovered s p u v)) (Ok (Covered t q)) c n g h i j = cc
+    go (Ok (Uncovered s p u v)) (Ok (Uncovered t q w x)) c n g h i j = cc
+    go (Ok (Uncovered s p u v)) (Err y) c n g h i j = cc
+    go (Err x) (Ok (Covered t q)) c n g h i j = cc
+    go (Err x) (Ok (Uncovered t q w y)) c n g h i j = cc
+    go (Err x) (Err y) c n g h i j = ap Err (one_refusal x y (one_number _ _ n) g h)
 
 -- of the tables that closing gives with number 0, u has at most 255 letters and v at most 2,048
 short : (m : Model) (arrows : List ℕ) (S : SetSlices) (T : ProfileSlices) → (due m arrows S T).number ≡ 0
@@ -65,9 +74,9 @@ short m arrows S T closed (paper.uncovered u v) e =
     )
 
 module _ {m : Model} {arrows : List ℕ} {S S' : SetSlices} {T T' : ProfileSlices} {memory memory' : List ℕ} where
-  module _ {answer : Answer} (j : GivesVerdict m arrows S S' T T' memory memory' answer) where
+  module _ {answer : Result Answer Refused} (j : GivesVerdict m arrows S S' T T' memory memory' answer) where
     -- THE VERDICT has one result: the answer, and what all lent memory holds
-    pub one_verdict : {S'' : SetSlices} {T'' : ProfileSlices} {memory'' : List ℕ} {other : Answer}
+    pub one_verdict : {S'' : SetSlices} {T'' : ProfileSlices} {memory'' : List ℕ} {other : Result Answer Refused}
         → GivesVerdict m arrows S S'' T T'' memory memory'' other → (answer ≡ other) × (S' ≡ S'') × (T' ≡ T'') × (memory' ≡ memory'')
     one_verdict k =
         let (_, sets, profiles) = one_closing j.closing k.closing in

@@ -4,11 +4,14 @@ use Prim.Native.Nat.{ℕ, zero, suc, ◌<◌, ◌≤◌}
 use native.Mathlib.Omega.{arith}
 use mathlib.Core.Path.{◌≡◌, refl, sym, ap, ◌∙◌}
 use mathlib.Core.Bool.{Bool, true, false, cond}
-use mathlib.Core.Logic.{◌⊎◌, inl, inr, ⊎_elim}
+use mathlib.Core.Logic.{inl, inr, ⊎_elim}
 use mathlib.Core.List.{List, [], ◌∷◌, ◌++◌}
 use mathlib.Core.Option.{Option, none, some}
-use lib.ListN.{length, get_or, get_elem?}
+use lib.ListN.{length, get_or, get_elem?, take, drop, set, length-take, length-set, drop_of_length-le}
+use lib.Seq.{drop-cons, get_or-set_same}
 use lib.Dec.{eqb, ltb}
+use Rattle.std.proofs.Common.{◌≢◌}
+use Rattle.std.proofs.lemmas.Bool.Decides.{eqb_tells}
 use borrow.Author.Tests.{ne_eqb, ltb-true, ltb-false}
 use Rattle.laws.specs.Words as words
 use Rattle.laws.specs.Tables.{WordValue, Entry, no_entry, no_event, Came, empty_word, one_event, one_more, Holds, rebuilt, word_of}
@@ -52,9 +55,9 @@ module _ (from event : ℕ) (before : words.Word) where
   spelt_more f = rw (ne_eqb from no_entry f, spelt)
 
   -- with no predecessor it does not matter which word that is
-  spelt_none : (other : words.Word) → from ≡ no_entry → spelt from event before ≡ spelt from event other
+  spelt_same : (other : words.Word) → (from ≢ no_entry → before ≡ other) → spelt from event before ≡ spelt from event other
   unfolding spelt
-  spelt_none other f = rw f
+  spelt_same other h = elim (eqb_tells from no_entry) [ inl e ↦ rw (e.0, spelt) | inr e ↦ ap (spelt from event) (h e.1) ]
 
   spelt_short : length (spelt from event before) ≤ suc (length before)
   unfolding spelt
@@ -88,7 +91,7 @@ module _ {Value : Type 0} (es : List (Entry Value)) where
           rw (rebuilt_at es d i p) (omega (arith, spelt_short e.from e.event (rebuilt es d e.from), short e.from))
 
   -- where the numbers fall, the bound does not matter once it is above the number
-  module _ (falls : (i : ℕ) (e : Entry Value) → get_elem? es i ≡ some e → (e.from ≡ no_entry) ⊎ (e.from < i)) where
+  module _ (falls : (i : ℕ) (e : Entry Value) → get_elem? es i ≡ some e → e.from ≢ no_entry → e.from < i) where
     enough : (c d i : ℕ) → i < c → i < d → rebuilt es c i ≡ rebuilt es d i
     enough zero d i l m = absurd (omega arith)
     enough (suc c) zero i l m = absurd (omega arith)
@@ -99,15 +102,12 @@ module _ {Value : Type 0} (es : List (Entry Value)) where
         go same none p = rw (rebuilt_past es c i (end_past es i p), rebuilt_past es d i (end_past es i p))
         go same (some e) p =
             rebuilt_at es c i p
-            ∙ ⊎_elim
-            (spelt_none e.from e.event (rebuilt es c e.from) (rebuilt es d e.from))
-            (λ f. ap (spelt e.from e.event) (same e.from (omega arith) (omega arith)))
-            (falls i e p)
+            ∙ spelt_same e.from e.event _ _ (λ f. let less = falls i e p f in same e.from (omega arith) (omega arith))
             ∙ sym (rebuilt_at es d i p)
 
 -- numbers fall in linked slices
 linked_falls : {from event : List ℕ} → Linked from event → (i : ℕ) (e : Entry ℕ) → get_elem? (links from event) i ≡ some e
-    → (e.from ≡ no_entry) ⊎ (e.from < i)
+    → e.from ≢ no_entry → e.from < i
 linked_falls {from = from} {event = event} h i e p =
     let there : i < length from = omega (arith, place_below (links from event) i p, length_links from event) in
     let same = inside (sym p ∙ at_links from event i there) in
@@ -117,17 +117,15 @@ linked_falls {from = from} {event = event} h i e p =
 module _ {from event : List ℕ} (h : Linked from event) (i : ℕ) (l : i < length from) where
   -- a predecessor's number is smaller
   pub from_below : (get_or from i 0 ≡ no_entry → ⊥) → get_or from i 0 < i
-  from_below f = ⊎_elim (λ e. absurd (f e)) (λ m. m) (h.falls i l)
+  from_below = h.falls i l
 
   word_at : word_in from event i ≡ spelt (get_or from i 0) (get_or event i 0) (word_in from event (get_or from i 0))
   unfolding word_in word_of
   word_at =
       let j = get_or from i 0 in
       rebuilt_at (links from event) i i (at_links from event i l)
-      ∙ ⊎_elim
-      (spelt_none j (get_or event i 0) _ _)
-      (λ f. ap (spelt j (get_or event i 0)) (enough (links from event) (linked_falls h) i (suc j) j f (omega arith)))
-      (h.falls i l)
+      ∙ spelt_same j (get_or event i 0) _ _
+      (λ f. enough (links from event) (linked_falls h) i (suc j) j (h.falls i l f) (omega arith))
 
   pub word_empty : get_or from i 0 ≡ no_entry → get_or event i 0 ≡ no_event → word_in from event i ≡ []
   word_empty f a = word_at ∙ spelt_empty _ _ _ f a
@@ -152,10 +150,10 @@ pub linked : {Value : Type 0} {Val : WordValue Value} {k : ℕ} (value : ℕ →
 linked {Val = Val} value from event n h e long =
     record { events_there = omega arith; falls = λ i l. came (h.came i _ (entries_at value from event n i (omega arith))) }
   where
-    came : {i : ℕ} {e : Entry _} → Came Val h.word i e → (e.from ≡ no_entry) ⊎ (e.from < i)
-    came (empty_word p f a) = inl f
-    came (one_event n p f) = inl f
-    came (one_more m p) = inr m
+    came : {i : ℕ} {e : Entry _} → Came Val h.word i e → e.from ≢ no_entry → e.from < i
+    came (empty_word p f a) n = absurd (n f)
+    came (one_event a p f) n = absurd (n f)
+    came (one_more m p) n = m
 
 -- THE WORD OF AN ENTRY that is read with any value is what the two slices give
 module _ {Value : Type 0} (value : ℕ → Value) (from event : List ℕ) where
@@ -184,3 +182,26 @@ module _ {Value : Type 0} (value : ℕ → Value) (from event : List ℕ) where
   pub word_same : (i : ℕ) → word_of valued i ≡ word_in from event i
   unfolding word_in word_of
   word_same i = rebuilt_same (suc i) i
+
+-- a part with no place; with one, to which a letter is written; and what follows the part before the last place, once a letter is there
+pub no_place : (xs : List ℕ) → length xs ≡ 0 → xs ≡ []
+no_place [] e = refl
+no_place (x ∷ xs) e = absurd (omega arith)
+
+pub one_place : (xs : List ℕ) (a : ℕ) → length xs ≡ 1 → set xs 0 a ≡ a ∷ []
+one_place [] a e = absurd (omega arith)
+one_place (x ∷ []) a e = refl
+one_place (x ∷ y ∷ xs) a e = absurd (omega arith)
+
+pub last_place : (xs : List ℕ) (n a : ℕ) → length xs ≡ suc n → drop n (set xs n a) ≡ a ∷ []
+last_place xs n a e =
+    let as_long = length-set xs n a in
+    drop-cons (set xs n a) n 0 (omega arith)
+    ∙ cc (get_or-set_same xs n a 0 (omega arith), drop_of_length-le (set xs n a) {i = suc n} (omega arith))
+
+-- how long the part before the last place is, wherever a letter is written
+pub before_last : (xs : List ℕ) (n i a : ℕ) → length xs ≡ suc n → length (take n (set xs i a)) ≡ n
+before_last xs n i a e = simp (length-take, length-set) (omega arith)
+
+-- what counting and writing a word take
+pub ruleset word_steps = (from_below, word_empty, word_one, word_more, word_longer, word_short, no_place, one_place, last_place, before_last)

@@ -1,8 +1,7 @@
 -- What the search for a rejecting pair finds, in the slices of masks, arrows and marks.
-use Rattle.std.specs.Prelude.{ℕ, ◌<◌, ◌≡◌, Bool, true, false, List, length, get_or}
+use Rattle.std.specs.Prelude.{ℕ, ◌<◌, ◌≡◌, Bool, true, false, Option, Some, None, List, length, get_or}
 use Rattle.laws.specs.Profiles.{is_rejecting_pair}
 use Rattle.cover.specs.declared.pairs.Pair.{Pair}
-use Rattle.cover.specs.declared.pairs.Pair.TheVariants.{Nowhere, At}
 
 module _ (masks arrows marks : List ℕ) where
   -- set number i and profile number j reject
@@ -22,6 +21,6 @@ module _ (masks arrows marks : List ℕ) where
     pub none_before : NoneBefore i j
 
   -- what was found: no pair rejects, or this is the first that does
-  abbrev pub First : Pair → Type 0
-  First Nowhere = (l m : ℕ) → l < length masks → m < length arrows → rejects l m ≡ false
-  First (At i j) = FirstAt i j
+  abbrev pub First : Option Pair → Type 0
+  First None = (l m : ℕ) → l < length masks → m < length arrows → rejects l m ≡ false
+  First (Some p) = FirstAt p.set p.profile

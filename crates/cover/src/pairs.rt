@@ -1,30 +1,26 @@
 // The first pair of a set and a profile that rejects.
-ghost use Rattle.std.specs.Prelude.{◌≡◌, length};
 ghost use Rattle.cover.specs.Pairs.{First};
 
+use crate::tables::{Profiles, Sets};
 use profile::{Profile, is_rejecting};
 
-// The first rejecting pair, by its numbers, where there is one.
+// A set and a profile, by their numbers.
 #[derive(Clone, Copy)]
-pub enum Pair {
-    Nowhere,
-    At { set: usize, profile: usize },
+pub struct Pair {
+    pub set: usize,
+    pub profile: usize,
 }
 
 // Goes through the sets, and for each through all profiles, and leaves both loops at the first pair that rejects.
-pub fn first(masks: &[u8], arrows: &[u64], marks: &[u64]) -> Pair
-    requires { length marks.now ≡ length arrows.now }
-    ensures { First masks.now arrows.now marks.now result }
+#[tactic(auto, unfolding(crate::specs::Pairs::rejects))]
+pub fn first(sets: Sets, profiles: Profiles) -> Option<Pair>
+    ensures { First sets.entry.masks.now profiles.entry.arrows.now profiles.entry.marks.now result }
 {
-    let mut found = Pair::Nowhere;
-    'search: for i in 0..masks.len() {
-        for j in 0..arrows.len() {
-            let t = Profile {
-                arrows: arrows[j],
-                marks: marks[j],
-            };
-            if is_rejecting(masks[i], t) {
-                found = Pair::At { set: i, profile: j };
+    let mut found = None;
+    'search: for (i, &set) in sets.masks.iter().enumerate() {
+        for (j, (&arrows, &marks)) in profiles.arrows.iter().zip(profiles.marks).enumerate() {
+            if is_rejecting(set, Profile { arrows, marks }) {
+                found = Some(Pair { set: i, profile: j });
                 break 'search;
             }
         }

@@ -1,74 +1,69 @@
 // The least word of an entry, rebuilt through ever smaller entry numbers, and the words of a pair in the word memory.
 ghost use Rattle.std.specs.Prelude.{◌<◌, ◌≤◌, ◌≡◌, length};
-ghost use Rattle.cover.specs.WordMemory.{Linked, word_in, Places};
+ghost use Rattle.cover.specs.WordMemory.{word_in, Places};
 
+use crate::pairs::Pair;
+use crate::tables::{Links, Profiles, Sets};
 use closing::{NO_ENTRY, NO_EVENT};
 
 // How many letters the word of entry i has.
-fn count(from: &[u16], event: &[u8], i: usize) -> usize
-    requires { (i < length from.now) × Linked from.now event.now }
-    ensures { result ≡ length (word_in from.now event.now i) }
+#[tactic(auto, using(crate::proofs::Rebuilding::word_steps))]
+fn count(links: Links, i: usize) -> usize
+    requires { i < length links.from.now }
+    ensures { result ≡ length (word_in links.entry.from.now links.entry.event.now i) }
 {
-    let origin = from[i];
+    let origin = links.from[i];
     if origin == NO_ENTRY {
-        if event[i] == NO_EVENT {
+        if links.event[i] == NO_EVENT {
             return 0;
         }
         return 1;
     }
-    count(from, event, origin as usize) + 1
+    count(links, origin as usize) + 1
 }
 
 // Writes the word of entry i to a part that has exactly its length.
-fn write(from: &[u16], event: &[u8], i: usize, out: &mut [u8])
-    requires i_in_bounds { (i < length from.now) × Linked from.now event.now }
-    requires out_len { length out.old ≡ length (word_in from.now event.now i) }
-    ensures { out.new ≡ word_in from.now event.now i }
+#[tactic(auto, using(crate::proofs::Rebuilding::word_steps))]
+fn write(links: Links, i: usize, out: &mut [u8])
+    requires i_in_bounds { i < length links.from.now }
+    requires out_len { length out.old ≡ length (word_in links.from.now links.event.now i) }
+    ensures { out.new ≡ word_in links.entry.from.now links.entry.event.now i }
 {
-    let origin = from[i];
+    let origin = links.from[i];
     if origin == NO_ENTRY {
-        if event[i] == NO_EVENT {
+        if links.event[i] == NO_EVENT {
             return;
         }
-        out[0] = event[i];
+        out[0] = links.event[i];
         return;
     }
     let last = out.len() - 1;
-    out[last] = event[i];
-    write(from, event, origin as usize, &mut out[..last]);
+    out[last] = links.event[i];
+    write(links, origin as usize, &mut out[..last]);
 }
 
-// How many letters u and v have, and whether both fit.
+// How many letters u and v have.
 #[derive(Clone, Copy)]
 pub struct Placed {
-    pub fits: bool,
     pub u: usize,
     pub v: usize,
 }
 
-// Writes the word of set i and behind it that of profile j, or nothing where they do not fit.
-pub fn place(
-    set_from: &[u16],
-    set_event: &[u8],
-    i: usize,
-    profile_from: &[u16],
-    profile_event: &[u8],
-    j: usize,
-    memory: &mut [u8],
-) -> Placed
-    requires i_in_bounds { (i < length set_from.now) × Linked set_from.now set_event.now }
-    requires j_in_bounds { (j < length profile_from.now) × Linked profile_from.now profile_event.now }
-    requires set_from_len_bound { (length set_from.now ≤ 256) × (length profile_from.now ≤ 2048) }
-    ensures { Places (word_in set_from.now set_event.now i)
-        (word_in profile_from.now profile_event.now j)
+// Writes the word of the pair's set and behind it that of its profile, or nothing where they do not fit.
+#[tactic(auto, using(crate::proofs::Rebuilding::word_steps), unfolding(laws::specs::Answers::over))]
+pub fn place(sets: Sets, profiles: Profiles, pair: Pair, memory: &mut [u8]) -> Option<Placed>
+    requires set_there { pair.set < length sets.masks.now }
+    requires profile_there { pair.profile < length profiles.arrows.now }
+    ensures { Places (word_in sets.entry.links.from.now sets.entry.links.event.now pair.set)
+        (word_in profiles.entry.links.from.now profiles.entry.links.event.now pair.profile)
         memory.old memory.new result }
 {
-    let u = count(set_from, set_event, i);
-    let v = count(profile_from, profile_event, j);
+    let u = count(sets.links, pair.set);
+    let v = count(profiles.links, pair.profile);
     if memory.len() < u + v {
-        return Placed { fits: false, u, v };
+        return None;
     }
-    write(set_from, set_event, i, &mut memory[..u]);
-    write(profile_from, profile_event, j, &mut memory[u..u + v]);
-    Placed { fits: true, u, v }
+    write(sets.links, pair.set, &mut memory[..u]);
+    write(profiles.links, pair.profile, &mut memory[u..u + v]);
+    Some(Placed { u, v })
 }

@@ -7,16 +7,18 @@ ghost use Rattle.opposite.specs.Memory.{opposite_memory};
 ghost use Rattle.editor.specs.Editor.{in_numbers, Exports, opposite_numbers, ExportsOpposite};
 ghost use Rattle.editor.specs.Editor.{course_numbers, ExportsCourse, reading_numbers, ExportsReading};
 
+use closing::{ProfileMemory, Refused, SetMemory};
 use course::Judgement;
 use cover::Answer;
-use model::{Model, Reading};
+use model::{Fault, Model, Refusal};
+use opposite::{OppositeMemory, Written};
 
 // The verdict as a number; include/cover.h has the same.
-const NO_VERDICT: u8 = 0;
-
-const COVERED: u8 = 1;
-
-const UNCOVERED: u8 = 2;
+enum Verdict {
+    NotGiven = 0,
+    Covered = 1,
+    Uncovered = 2,
+}
 
 // The verdict's answer as numbers; include/cover.h declares the same.
 #[repr(C)]
@@ -31,43 +33,50 @@ pub struct CoverVerdict {
 }
 
 // Each case of the answer as numbers.
-fn plain(answer: Answer) -> CoverVerdict
-    ensures { result ≡ in_numbers answer }
-{
-    match answer {
-        Answer::Covered { sets, profiles } => CoverVerdict {
-            number: 0,
-            verdict: COVERED,
-            sets,
-            profiles,
-            u: 0,
-            v: 0,
-        },
-        Answer::Uncovered {
-            sets,
-            profiles,
-            u,
-            v,
-        } => CoverVerdict {
-            number: 0,
-            verdict: UNCOVERED,
-            sets,
-            profiles,
-            u,
-            v,
-        },
-        Answer::Refused {
-            number,
-            sets,
-            profiles,
-        } => CoverVerdict {
-            number,
-            verdict: NO_VERDICT,
-            sets,
-            profiles,
-            u: 0,
-            v: 0,
-        },
+impl From<Result<Answer, Refused>> for CoverVerdict {
+    ghost from_gives = { λ answer numbers. numbers ≡ in_numbers answer };
+
+    #[tactic(auto, unfolding(crate::specs::Editor::in_numbers, crate::specs::Editor::code, cover::specs::Verdicts::told))]
+    fn from(answer: Result<Answer, Refused>) -> CoverVerdict {
+        match answer {
+            Ok(Answer::Covered { sets, profiles }) => CoverVerdict {
+                number: 0,
+                verdict: Verdict::Covered as u8,
+                sets,
+                profiles,
+                u: 0,
+                v: 0,
+            },
+            Ok(
+                Answer::Uncovered {
+                    sets,
+                    profiles,
+                    u,
+                    v,
+                },
+            ) => CoverVerdict {
+                number: 0,
+                verdict: Verdict::Uncovered as u8,
+                sets,
+                profiles,
+                u,
+                v,
+            },
+            Err(
+                Refused {
+                    refusal,
+                    sets,
+                    profiles,
+                },
+            ) => CoverVerdict {
+                number: u8::from(refusal),
+                verdict: Verdict::NotGiven as u8,
+                sets,
+                profiles,
+                u: 0,
+                v: 0,
+            },
+        }
     }
 }
 
@@ -98,18 +107,18 @@ pub fn cover_verdict(
         result }
 {
     let m = Model { n, k, start, home };
-    plain(cover::verdict(
-        m,
-        arrows,
-        set_masks,
-        set_from,
-        set_event,
-        profile_arrows,
-        profile_marks,
-        profile_from,
-        profile_event,
-        memory,
-    ))
+    let mut sets = SetMemory {
+        masks: set_masks,
+        from: set_from,
+        event: set_event,
+    };
+    let mut profiles = ProfileMemory {
+        arrows: profile_arrows,
+        marks: profile_marks,
+        from: profile_from,
+        event: profile_event,
+    };
+    cover::verdict(m, arrows, &mut sets, &mut profiles, memory).into()
 }
 
 // The opposite's answer as numbers; include/cover.h declares the same.
@@ -124,33 +133,40 @@ pub struct CoverOpposite {
 }
 
 // Each case of the opposite's answer as numbers.
-fn plain_opposite(answer: opposite::Answer) -> CoverOpposite
-    ensures { result ≡ opposite_numbers answer }
-{
-    match answer {
-        opposite::Answer::Written {
-            sets,
-            profiles,
-            states,
-            arrows,
-        } => CoverOpposite {
-            number: 0,
-            sets,
-            profiles,
-            states,
-            arrows,
-        },
-        opposite::Answer::Refused {
-            number,
-            sets,
-            profiles,
-        } => CoverOpposite {
-            number,
-            sets,
-            profiles,
-            states: 0,
-            arrows: 0,
-        },
+impl From<Result<Written, Refused>> for CoverOpposite {
+    ghost from_gives = { λ answer numbers. numbers ≡ opposite_numbers answer };
+
+    #[tactic(auto, unfolding(crate::specs::Editor::opposite_numbers, opposite::specs::Opposites::told))]
+    fn from(answer: Result<Written, Refused>) -> CoverOpposite {
+        match answer {
+            Ok(
+                Written {
+                    sets,
+                    profiles,
+                    states,
+                    arrows,
+                },
+            ) => CoverOpposite {
+                number: 0,
+                sets,
+                profiles,
+                states,
+                arrows,
+            },
+            Err(
+                Refused {
+                    refusal,
+                    sets,
+                    profiles,
+                },
+            ) => CoverOpposite {
+                number: u8::from(refusal),
+                sets,
+                profiles,
+                states: 0,
+                arrows: 0,
+            },
+        }
     }
 }
 
@@ -184,29 +200,33 @@ pub fn cover_opposite(
         (opposite_memory from.new event.new to.new flags.new)
         result }
 {
-    plain_opposite(opposite::opposite(
-        Model { n, k, start, home },
-        arrows,
-        set_masks,
-        set_from,
-        set_event,
-        profile_arrows,
-        profile_marks,
-        profile_from,
-        profile_event,
+    let model = Model { n, k, start, home };
+    let mut sets = SetMemory {
+        masks: set_masks,
+        from: set_from,
+        event: set_event,
+    };
+    let mut profiles = ProfileMemory {
+        arrows: profile_arrows,
+        marks: profile_marks,
+        from: profile_from,
+        event: profile_event,
+    };
+    let mut out = OppositeMemory {
         from,
         event,
         to,
         flags,
-    ))
+    };
+    opposite::opposite(model, arrows, &mut sets, &mut profiles, &mut out).into()
 }
 
 // The judgement as a number; include/cover.h has the same.
-const NO_JUDGEMENT: u8 = 0;
-
-const ACCEPTED: u8 = 1;
-
-const NOT_ACCEPTED: u8 = 2;
+enum Judged {
+    NotGiven = 0,
+    Accepted = 1,
+    NotAccepted = 2,
+}
 
 // The judgement of one course as numbers; include/cover.h declares the same.
 #[repr(C)]
@@ -217,22 +237,25 @@ pub struct CoverCourse {
 }
 
 // Each case of the judgement as numbers.
-fn plain_course(answer: Judgement) -> CoverCourse
-    ensures { result ≡ course_numbers answer }
-{
-    match answer {
-        Judgement::Accepted => CoverCourse {
-            number: 0,
-            judgement: ACCEPTED,
-        },
-        Judgement::Rejected => CoverCourse {
-            number: 0,
-            judgement: NOT_ACCEPTED,
-        },
-        Judgement::Refused { number } => CoverCourse {
-            number,
-            judgement: NO_JUDGEMENT,
-        },
+impl From<Result<Judgement, Refusal>> for CoverCourse {
+    ghost from_gives = { λ answer numbers. numbers ≡ course_numbers answer };
+
+    #[tactic(auto, unfolding(crate::specs::Editor::course_numbers, crate::specs::Editor::code, course::specs::Courses::number, course::specs::Courses::accepted, course::specs::Courses::is_said))]
+    fn from(answer: Result<Judgement, Refusal>) -> CoverCourse {
+        match answer {
+            Ok(Judgement::Accepted) => CoverCourse {
+                number: 0,
+                judgement: Judged::Accepted as u8,
+            },
+            Ok(Judgement::Rejected) => CoverCourse {
+                number: 0,
+                judgement: Judged::NotAccepted as u8,
+            },
+            Err(refusal) => CoverCourse {
+                number: u8::from(refusal),
+                judgement: Judged::NotGiven as u8,
+            },
+        }
     }
 }
 
@@ -249,7 +272,7 @@ pub fn cover_course(
     ensures { ExportsCourse (record { n = n; k = k; start = start; home = home }) arrows.now
         u.now v.now result }
 {
-    plain_course(course::judge(Model { n, k, start, home }, arrows, u, v))
+    course::judge(Model { n, k, start, home }, arrows, u, v).into()
 }
 
 // What was read of a file, as numbers; include/cover.h declares the same.
@@ -265,26 +288,29 @@ pub struct CoverReading {
 }
 
 // Each case of a reading as numbers.
-fn plain_reading(answer: Reading) -> CoverReading
-    ensures { result ≡ reading_numbers answer }
-{
-    match answer {
-        Reading::Read { model } => CoverReading {
-            number: 0,
-            offset: 0,
-            n: model.n,
-            k: model.k,
-            start: model.start,
-            home: model.home,
-        },
-        Reading::Refused { number, offset } => CoverReading {
-            number,
-            offset,
-            n: 0,
-            k: 0,
-            start: 0,
-            home: 0,
-        },
+impl From<Result<Model, Fault>> for CoverReading {
+    ghost from_gives = { λ answer numbers. numbers ≡ reading_numbers answer };
+
+    #[tactic(auto, unfolding(crate::specs::Editor::reading_numbers, model::specs::Reader::told))]
+    fn from(answer: Result<Model, Fault>) -> CoverReading {
+        match answer {
+            Ok(model) => CoverReading {
+                number: 0,
+                offset: 0,
+                n: model.n,
+                k: model.k,
+                start: model.start,
+                home: model.home,
+            },
+            Err(Fault { refusal, offset }) => CoverReading {
+                number: u8::from(refusal),
+                offset,
+                n: 0,
+                k: 0,
+                start: 0,
+                home: 0,
+            },
+        }
     }
 }
 
@@ -292,5 +318,5 @@ fn plain_reading(answer: Reading) -> CoverReading
 pub fn cover_read(file: &[u8], arrows: &mut [u64]) -> CoverReading
     ensures { ExportsReading file.now arrows.old arrows.new result }
 {
-    plain_reading(model::read(file, arrows))
+    model::read(file, arrows).into()
 }

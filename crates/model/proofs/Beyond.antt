@@ -1,18 +1,17 @@
--- What the refusals of a model test: a number's bits from n on by its quotient, an arrow number's rows, and some of the first k elements.
-use Prim.Native.Nat.{ℕ, zero, suc, ◌*◌, ◌/◌, ◌^◌, ◌<◌, ◌≤◌}
-use native.Mathlib.Nat.{le-div_iff_mul-le}
+-- What the refusals of a model test: a number's bits from n on by its quotient, an arrow number's rows, and what `any` answers.
+use Prim.Native.Nat.{ℕ, zero, suc, ◌+◌, ◌*◌, ◌/◌, ◌^◌, ◌<◌, ◌≤◌}
+use native.Mathlib.Nat.{add-zero, zero-add, le-div_iff_mul-le}
 use native.Mathlib.Omega.{arith}
 use mathlib.Core.Path.{◌≡◌, refl, sym, ap, ◌∙◌}
-use mathlib.Core.Bool.{Bool, true, false, ◌||◌, or_assoc, or-false}
-use mathlib.Core.List.{List, [], ◌∷◌, ◌++◌}
-use lib.ListN.{length, take, get_or}
-use lib.Seq.{take-suc}
+use mathlib.Core.Bool.{Bool, true, ◌||◌, or_assoc, or-false}
+use mathlib.Core.List.{List, [], ◌∷◌}
 use lib.Pow.{pow_pos}
 use lib.Dec.{ltb, leb}
 use borrow.Author.Tests.{ltb-true, leb-true, leb-false, lt-ltb, le-ltb, lt-leb, le-leb}
+use Rattle.std.specs.List.{list_any, range_with_len}
 use Rattle.laws.specs.Bits.{packed_row, some_below, some_of}
 use Rattle.laws.specs.Refusals.{mask_beyond, arrows_beyond}
-use Rattle.laws.proofs.Booleans.{or_left, or_right, same_test, some_is_below}
+use Rattle.laws.proofs.Booleans.{or_left, same_test}
 
 -- a number has a bit n or above exactly if its quotient by 2^n is not 0
 pub quotient_test : (n x : ℕ) → ltb 0 (x / 2 ^ n) ≡ leb (2 ^ n) x
@@ -35,22 +34,28 @@ module _ (W n x : ℕ) where
   unfolding arrows_beyond
   beyond_high h = or_left (some_below n row_beyond) (sym (quotient_test (W * n) x) ∙ lt-ltb 0 (x / 2 ^ (W * n)) h)
 
-  pub beyond_row : (p : ℕ) → p < n → row_beyond p ≡ true → arrows_beyond W n x ≡ true
+  -- only by these where it has none in row n or above
+  pub low_rows : x < 2 ^ (W * n) → arrows_beyond W n x ≡ some_below n row_beyond
   unfolding arrows_beyond
-  beyond_row p l e = or_right (leb (2 ^ (W * n)) x) (some_is_below row_beyond n p l e)
+  low_rows l = rw (lt-leb (2 ^ (W * n)) x l)
 
-  pub not_beyond : x < 2 ^ (W * n) → some_below n row_beyond ≡ false → arrows_beyond W n x ≡ false
-  unfolding arrows_beyond
-  not_beyond l e = rw (lt-leb (2 ^ (W * n)) x l, e)
-
--- f holds of some of the first k elements exactly if it holds of the element at some place below k
-module _ {A : Type 0} (f : A → Bool) (d : A) where
-  some_end : (xs : List A) (x : A) → some_of f (xs ++ (x ∷ [])) ≡ some_of f xs || f x
+-- what `any` answers of a list, and of the numbers below n
+module _ {A : Type 0} (f : A → Bool) where
+  pub asked_any : (xs : List A) → list_any f xs ≡ some_of f xs
   unfolding some_of
-  some_end [] x = or-false (f x)
-  some_end (y ∷ xs) x = ap (λ (b : Bool). f y || b) (some_end xs x) ∙ sym (or_assoc (f y) (some_of f xs) (f x))
+  asked_any [] = refl
+  asked_any (x ∷ xs) = ap (λ (b : Bool). f x || b) (asked_any xs)
 
-  pub some_taken : (xs : List A) (k : ℕ) → k ≤ length xs → some_of f (take k xs) ≡ some_below k (λ i. f (get_or xs i d))
-  unfolding some_of some_below
-  some_taken xs zero h = refl
-  some_taken xs (suc k) h = rw (take-suc xs k d, some_end, some_taken xs k (omega arith))
+asked_behind : (f : ℕ → Bool) (i d : ℕ) → some_below i f || list_any f (range_with_len i d) ≡ some_below (i + d) f
+unfolding some_below
+asked_behind f i zero = rw (or-false, add-zero)
+asked_behind f i (suc d) =
+    let one : i + 1 ≡ suc i = omega arith in
+    let next : i + 1 + d ≡ i + suc d = omega arith in
+    sym (or_assoc (some_below i f) (f i) (list_any f (range_with_len (i + 1) d)))
+    ∙ ap (λ n. some_below n f || list_any f (range_with_len (i + 1) d)) (sym one)
+    ∙ asked_behind f (i + 1) d ∙ ap (λ n. some_below n f) next
+
+pub asked_below : (f : ℕ → Bool) (n : ℕ) → list_any f (range_with_len 0 n) ≡ some_below n f
+unfolding some_below
+asked_below f n = asked_behind f 0 n ∙ rw zero-add

@@ -1,5 +1,7 @@
 -- what follows from the contracts
 pub mod Promises
+-- the numbers of refusals
+pub mod Numbers
 -- bits for states n or above
 pub mod Beyond
 -- the fields of a file

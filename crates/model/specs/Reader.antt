@@ -1,14 +1,12 @@
 -- What reading a model file ensures, for every file and every lent slice of arrows: the answer and all memory.
-use Rattle.std.specs.Prelude.{ℕ, ◌<◌, ◌≤◌, ◌≡◌, Bool, true, false, List, length, eqb}
+use Rattle.std.specs.Prelude.{ℕ, ◌≤◌, ◌≡◌, Bool, true, false, List, length, eqb, Result, Ok, Err}
 use Rattle.laws.specs.Model as laws
 use Rattle.laws.specs.Refusals.{Passed, Stopped}
 use Rattle.laws.specs.File as paper
 use Rattle.laws.specs.Answers.{arrow_slice}
 use Rattle.model.specs.declared.Model.{Model}
-use Rattle.model.specs.declared.Reading.{Reading}
-use Rattle.model.specs.declared.Reading.TheVariants.{Read, Refused}
-use Rattle.model.specs.declared.fields.Field.{Field}
-use Rattle.model.specs.declared.fields.Field.TheVariants.{Value, Fault}
+use Rattle.model.specs.declared.refusals.Fault.{Fault}
+use Rattle.model.specs.Numbers.{number_of}
 
 -- what a reading tells: whether a model was read, the number and the offset, and the model's numbers and masks
 pub record Told : Type 0 where
@@ -21,9 +19,9 @@ pub record Told : Type 0 where
   pub home : ℕ
 
 -- THE NUMBER AND THE VALUES of each case of a reading
-unfoldable pub told : Reading → Told
-told (Read m) = record { is_read = true; number = 0; offset = 0; n = m.n; k = m.k; start = m.start; home = m.home }
-told (Refused number offset) = record { is_read = false; number = number; offset = offset; n = 0; k = 0; start = 0; home = 0 }
+unfoldable pub told : Result Model Fault → Told
+told (Ok m) = record { is_read = true; number = 0; offset = 0; n = m.n; k = m.k; start = m.start; home = m.home }
+told (Err f) = record { is_read = false; number = number_of f.refusal; offset = f.offset; n = 0; k = 0; start = 0; home = 0 }
 
 -- the same of what document 01 finds in a file: a model is read exactly with number 0
 unfoldable pub tells : paper.Reading → Told
@@ -43,7 +41,7 @@ abbrev pub model_told : Told → List ℕ → laws.Model
 model_told t arrows = record { n = t.n; k = t.k; start = t.start; home = t.home; arrows = arrows }
 
 -- THE CONTRACT OF READING: the slice of arrows was old when it was lent, and is now new
-pub record ReadsFile (file old new : List ℕ) (answer : Reading) : Type 0 where
+pub record ReadsFile (file old new : List ℕ) (answer : Result Model Fault) : Type 0 where
   -- the number, the offset, n, k and both masks
   pub told_is : told answer ≡ tells (paper.reading file (length old))
   -- a number for each event and then what stood there before; as it was after a refusal
@@ -64,15 +62,9 @@ pub record FrontRead (file : List ℕ) (room : ℕ) (m : Model) : Type 0 where
   pub passed : Passed (paper.front_checks file m.n m.k room)
 
 -- or one of them has the first fault
-pub record FrontRefused (file : List ℕ) (room number offset : ℕ) : Type 0 where
-  pub some_number : 0 < number
-  pub stopped : Stopped (paper.front_checks file (paper.value file 0) (paper.value file 4) room) number offset
+pub record FrontRefused (file : List ℕ) (room : ℕ) (f : Fault) : Type 0 where
+  pub stopped : Stopped (paper.front_checks file (paper.value file 0) (paper.value file 4) room) (number_of f.refusal) f.offset
 
-abbrev pub IsFront : List ℕ → ℕ → Reading → Type 0
-IsFront file room (Read m) = FrontRead file room m
-IsFront file room (Refused number offset) = FrontRefused file room number offset
-
--- the refusal that a field's fault is; a value is none, and no caller asks for that
-unfoldable pub refusal_of : Field → Reading
-refusal_of (Value value) = Refused 0 0
-refusal_of (Fault number offset) = Refused number offset
+abbrev pub IsFront : List ℕ → ℕ → Result Model Fault → Type 0
+IsFront file room (Ok m) = FrontRead file room m
+IsFront file room (Err f) = FrontRefused file room f

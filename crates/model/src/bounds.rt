@@ -9,7 +9,7 @@ use crate::Model;
 pub fn is_outside(most: usize, x: usize) -> bool
     ensures { result ≡ outside most x }
 {
-    if x < 1 { true } else { most < x }
+    !(1..=most).contains(&x)
 }
 
 // A row of bits has one for a state n or above.
@@ -25,19 +25,10 @@ fn beyond(n: usize, arrows: u64) -> bool
     requires { n ≤ 8 }
     ensures { result ≡ arrows_beyond 8 n arrows }
 {
-    if n < Model::STATES {
-        if 0 < arrows >> (Model::STATES * n) {
-            return true;
-        }
+    if n < Model::STATES && 0 < arrows >> (Model::STATES * n) {
+        return true;
     }
-    let mut p = 0;
-    while p < n {
-        if row_beyond(n, (arrows >> (Model::STATES * p)) % 256) {
-            return true;
-        }
-        p += 1;
-    }
-    false
+    (0..n).any(|p| row_beyond(n, (arrows >> (Model::STATES * p)) % 256))
 }
 
 // One of the first k events has such arrows.
@@ -45,12 +36,5 @@ pub fn some_beyond(n: usize, k: usize, arrows: &[u64]) -> bool
     requires { (n ≤ 8) × (k ≤ length arrows.now) }
     ensures { result ≡ some_of (arrows_beyond 8 n) (take k arrows.now) }
 {
-    let mut a = 0;
-    while a < k {
-        if beyond(n, arrows[a]) {
-            return true;
-        }
-        a += 1;
-    }
-    false
+    arrows[..k].iter().any(|x| beyond(n, *x))
 }

@@ -1,11 +1,12 @@
 // The fields of a model file, each read at the offset where it must begin: its value, or its fault.
-ghost use Rattle.std.specs.Prelude.{◌+◌, ◌≤◌, ◌<◌, ◌≡◌, length, take, drop};
+ghost use Rattle.std.specs.Prelude.{◌+◌, ◌≤◌, ◌<◌, ◌≡◌, length};
 ghost use Rattle.laws.specs.Bits.{from_rows, some_of};
 ghost use Rattle.laws.specs.Refusals.{mask_beyond};
 ghost use Rattle.laws.specs.File.{offset_of_event, stand_from, formed, value, masks, number_checks, mask_checks, event_checks, end_checks};
-ghost use Rattle.model.specs.Fields.{IsField};
+ghost use Rattle.model.specs.Fields.{IsField, form_checks};
 
 use crate::bounds::{is_outside, row_beyond};
+use crate::{Fault, Model, Refusal};
 
 // The tags of the fields before the end field.
 pub const TAG_N: u8 = 0x01;
@@ -24,22 +25,15 @@ const HEAD: usize = 3;
 // The end field is a head and nothing behind it, byte for byte.
 const END: [u8; 3] = [0x7F, 0x00, 0x00];
 
-// The value of a field, or the number of its fault and the offset that is told with it.
-#[derive(Clone, Copy)]
-pub enum Field {
-    Value { value: u64 },
-    Fault { number: u8, offset: usize },
-}
+// The value of a field, or its fault.
+pub type Field = Result<u64, Fault>;
 
 // From an offset on stand exactly these bytes.
 fn stand_at(file: &[u8], at: usize, bytes: [u8; 3]) -> bool
     requires { at ≤ 65535 }
     ensures { result ≡ stand_from file.now at bytes }
 {
-    if file.len() < at + HEAD {
-        return false;
-    }
-    (file[at] == bytes[0]) & (file[at + 1] == bytes[1]) & (file[at + 2] == bytes[2])
+    at + HEAD <= file.len() && file[at..at + HEAD] == bytes[..]
 }
 
 // At an offset stands a field with this tag and length, not cut short.
@@ -49,10 +43,21 @@ fn is_formed(file: &[u8], at: usize, tag: u8, size: usize) -> bool
 {
     let low = (size % 256) as u8;
     let high = (size / 256 % 256) as u8;
-    if !stand_at(file, at, [tag, low, high]) {
-        return false;
+    stand_at(file, at, [tag, low, high]) && at + HEAD + size <= file.len()
+}
+
+// The byte of a field of one byte.
+fn byte_at(file: &[u8], at: usize, tag: u8) -> Field
+    requires { at ≤ 65535 }
+    ensures { IsField 8 (form_checks file.now at tag) (value file.now at) result }
+{
+    if !is_formed(file, at, tag, 1) {
+        return Err(Fault {
+            refusal: Refusal::BrokenForm,
+            offset: at,
+        });
     }
-    at + HEAD + size <= file.len()
+    Ok(file[at + HEAD] as u64)
 }
 
 // A field of one byte that holds a number from 1 to `most`.
@@ -60,22 +65,14 @@ pub fn number_at(file: &[u8], at: usize, tag: u8, most: usize) -> Field
     requires { at ≤ 65535 }
     ensures { IsField 8 (number_checks file.now at tag most) (value file.now at) result }
 {
-    if !is_formed(file, at, tag, 1) {
-        return Field::Fault {
-            number: 8,
-            offset: at,
-        };
-    }
-    let number = file[at + HEAD];
+    let number = byte_at(file, at, tag)?;
     if is_outside(most, number as usize) {
-        return Field::Fault {
-            number: 1,
+        return Err(Fault {
+            refusal: Refusal::OutsideRange,
             offset: at,
-        };
+        });
     }
-    Field::Value {
-        value: number as u64,
-    }
+    Ok(number)
 }
 
 // A field of one byte that holds a mask of n states.
@@ -83,20 +80,14 @@ pub fn mask_at(file: &[u8], at: usize, tag: u8, n: usize) -> Field
     requires { (at ≤ 65535) × (n ≤ 8) }
     ensures { IsField 8 (mask_checks file.now at tag n) (value file.now at) result }
 {
-    if !is_formed(file, at, tag, 1) {
-        return Field::Fault {
-            number: 8,
-            offset: at,
-        };
-    }
-    let mask = file[at + HEAD] as u64;
+    let mask = byte_at(file, at, tag)?;
     if row_beyond(n, mask) {
-        return Field::Fault {
-            number: 3,
+        return Err(Fault {
+            refusal: Refusal::MissingState,
             offset: at,
-        };
+        });
     }
-    Field::Value { value: mask }
+    Ok(mask)
 }
 
 // Where the field of event a begins, or behind the last event the end field.
@@ -107,33 +98,22 @@ pub fn event_offset(n: usize, a: usize) -> usize
     16 + a * (n + 4)
 }
 
-// Some of the n masks that begin at an offset has a bit for a state n or above.
-fn some_mask_beyond(file: &[u8], at: usize, n: usize) -> bool
-    requires { (n ≤ 8) × (at + n ≤ length file.now) }
-    ensures { result ≡ some_of (mask_beyond n) (take n (drop at file.now)) }
+// Some mask has a bit for a state n or above.
+fn some_mask_beyond(n: usize, masks: &[u8]) -> bool
+    requires { n ≤ 8 }
+    ensures { result ≡ some_of (mask_beyond n) masks.now }
 {
-    let mut p = 0;
-    while p < n {
-        if row_beyond(n, file[at + p] as u64) {
-            return true;
-        }
-        p += 1;
-    }
-    false
+    masks.iter().any(|mask| row_beyond(n, *mask as u64))
 }
 
-// The n masks that begin at an offset as one number, mask p in row p.
-fn packed(file: &[u8], at: usize, n: usize) -> u64
-    requires { (n ≤ 8) × (at + n ≤ length file.now) }
-    ensures { result ≡ from_rows 8 (take n (drop at file.now)) }
+// The masks as one number, mask p in row p.
+fn packed(masks: &[u8]) -> u64
+    requires { length masks.now ≤ 8 }
+    ensures { result ≡ from_rows 8 masks.now }
 {
-    let mut arrows: u64 = 0;
-    let mut p = n;
-    while 0 < p {
-        p -= 1;
-        arrows = 256 * arrows + file[at + p] as u64;
-    }
-    arrows
+    let mut rows = [0u8; Model::STATES];
+    rows[..masks.len()].copy_from_slice(masks);
+    u64::from_le_bytes(rows)
 }
 
 // The field of event a: its arrow number.
@@ -142,28 +122,20 @@ pub fn event_at(file: &[u8], n: usize, a: usize) -> Field
     ensures { IsField 64 (event_checks file.now n a) (from_rows 8 (masks file.now n a)) result }
 {
     let at = event_offset(n, a);
-    if !is_formed(file, at, TAG_EVENT, n + 1) {
-        return Field::Fault {
-            number: 8,
+    if !is_formed(file, at, TAG_EVENT, n + 1) || file[at + HEAD] as usize != a {
+        return Err(Fault {
+            refusal: Refusal::BrokenForm,
             offset: at,
-        };
+        });
     }
-    let event = file[at + HEAD] as usize;
-    if event != a {
-        return Field::Fault {
-            number: 8,
+    let masks = &file[at + 4..at + 4 + n];
+    if some_mask_beyond(n, masks) {
+        return Err(Fault {
+            refusal: Refusal::MissingState,
             offset: at,
-        };
+        });
     }
-    if some_mask_beyond(file, at + 4, n) {
-        return Field::Fault {
-            number: 3,
-            offset: at,
-        };
-    }
-    Field::Value {
-        value: packed(file, at + 4, n),
-    }
+    Ok(packed(masks))
 }
 
 // The end field, behind which nothing follows.
@@ -172,16 +144,16 @@ pub fn end_at(file: &[u8], at: usize) -> Field
     ensures { IsField 8 (end_checks file.now at) 0 result }
 {
     if !stand_at(file, at, END) {
-        return Field::Fault {
-            number: 8,
+        return Err(Fault {
+            refusal: Refusal::BrokenForm,
             offset: at,
-        };
+        });
     }
     if at + HEAD < file.len() {
-        return Field::Fault {
-            number: 8,
+        return Err(Fault {
+            refusal: Refusal::BrokenForm,
             offset: at + HEAD,
-        };
+        });
     }
-    Field::Value { value: 0 }
+    Ok(0)
 }

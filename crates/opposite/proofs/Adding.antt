@@ -1,5 +1,5 @@
 -- Counts added up one element after the other: what was added and what is left to add are together the whole.
-use Prim.Native.Nat.{ℕ, ◌+◌, ◌*◌, ◌≤◌, ◌<◌}
+use Prim.Native.Nat.{ℕ, zero, suc, ◌+◌, ◌*◌, ◌≤◌, ◌<◌}
 use native.Mathlib.Omega.{arith}
 use native.Mathlib.Nat.{suc-mul}
 use mathlib.Core.Path.{◌≡◌, refl, sym, ◌∙◌}
@@ -8,15 +8,17 @@ use mathlib.Core.Logic.{◌⊎◌, inl, ⊎_elim}
 use mathlib.Core.Option.{Option, none, some}
 use mathlib.Core.List.{List, [], ◌∷◌}
 use lib.ListN.{length, drop}
-use lib.Dec.{eqb}
+use lib.Dec.{eqb, ltb}
+use borrow.Author.Tests.{lt-ltb}
+use Rattle.std.specs.List.{count_by}
+use Rattle.std.proofs.lemmas.List.Recursion.{is_count_by}
 use Rattle.laws.specs.Bits.{counted, some_of, total, count}
 use Rattle.laws.specs.Model.{Machine}
 use Rattle.laws.specs.Profiles.{Profile, same_profile, image, is_fitting, marks_a_round, is_rejecting_pair, next_profile}
 use Rattle.laws.specs.Opposite.{has_block, rejects_non_empty, second_count}
 use Rattle.laws.proofs.Booleans.{never}
 use Rattle.laws.proofs.Members.{length_counted}
-use Rattle.opposite.specs.Tables.{profiles_at, remains_unmarked, is_idempotent}
-use Rattle.opposite.proofs.Rows.{profiles_length}
+use Rattle.opposite.specs.Tables.{remains_unmarked, is_idempotent}
 
 -- a test beside one that holds, and beside one that does not
 beside_true : (a b c : Bool) → (a && ((b && true) && c)) ≡ (a && (b && c))
@@ -45,6 +47,16 @@ abbrev one : {A : Type 0} → (A → Bool) → A → ℕ
 one f x = cond (f x) 1 0
 
 module _ {A : Type 0} where
+  -- what document 01 counts is what std counts, by a test that holds of the same
+  pub count_same : (f g : A → Bool) → ((x : A) → f x ≡ g x) → (xs : List A) → count f xs ≡ count_by g xs
+  unfolding count total
+  count_same f g same xs =
+      is_count_by (count f) g refl (λ x xs. rw same (go (g x) (count f xs))) xs
+    where
+      go : (b : Bool) (n : ℕ) → cond b 1 0 + n ≡ cond b (1 + n) n
+      go true n = refl
+      go false n = omega arith
+
   -- a test that holds of nothing is counted 0
   pub count_none : (f : A → Bool) (xs : List A) → ((x : A) → f x ≡ false) → 0 ≡ count f xs
   unfolding count total
@@ -116,10 +128,6 @@ module _ {A : Type 0} (f : A → Bool) (xs : List A) where
     pub count_ends : drop i xs ≡ [] → sofar ≡ count f xs
     count_ends end = add_ends (one f) xs so.adds end
 
--- there are no more profiles than arrows
-pub few_profiles : (arrows marks : List ℕ) {n : ℕ} → length marks ≡ length arrows → length arrows ≤ n → length (profiles_at arrows marks) ≤ n
-few_profiles arrows marks same l = rw (profiles_length arrows marks same) l
-
 module _ (W : ℕ) (M : Machine ℕ) (k : ℕ) (t : Profile) where
   -- on how many events what was read, of profile x, and then the event has the profile t
   abbrev returning : Option Profile → ℕ
@@ -183,3 +191,10 @@ module _ (W : ℕ) (Ps : List ℕ) (t : Profile) {pairs : ℕ} (counted : pairs 
       go : (b : Bool) → has_block W Ps t ≡ b → b ≡ true
       go true e = refl
       go false e = absurd (n (counted ∙ none_counted (λ P. rejects_non_empty W P t) Ps e))
+
+  pub block_by_pairs : ltb 0 pairs ≡ has_block W Ps t
+  block_by_pairs = go pairs refl
+    where
+      go : (n : ℕ) → pairs ≡ n → ltb 0 n ≡ has_block W Ps t
+      go zero e = sym (no_pair_no_block e)
+      go (suc n) e = lt-ltb 0 (suc n) (omega arith) ∙ sym (pair_has_block (λ z. omega arith))

@@ -1,15 +1,16 @@
 -- What the opposite ensures, from what closing ensures: after a refusal nothing more, and otherwise what is drawn from the first places of
 -- the slices, where the complete tables stand. The machine that then stands in the slices is document 01's, and that one is opposed.
-use Prim.Native.Nat.{ℕ, zero, suc, ◌≤◌, ◌<◌}
+use Prim.Native.Nat.{ℕ, zero, suc, ◌<◌}
 use native.Mathlib.Omega.{arith}
 use mathlib.Core.Path.{◌≡◌, refl, sym, ap, ap₂, ◌∙◌}
 use mathlib.Core.Bool.{Bool, true, false, ◌&&◌}
 use mathlib.Core.Logic.{◌⊎◌, inl, inr}
 use mathlib.Core.List.{List, [], ◌∷◌, map}
-use lib.ListN.{length, take, length-take, length-map}
+use lib.ListN.{length, take, length-map}
 use lib.Seq.{take_at, take_all}
 use lib.Dec.{eqb, leb}
 use borrow.Author.Tests.{ne_eqb, leb-true, leb-false}
+use Rattle.std.specs.Prelude.{Option as Maybe, Some, None, Result, Ok, Err, IsErr, IsErrAnd}
 use Rattle.laws.specs.Model.{Machine, eight, machine}
 use Rattle.laws.specs.Refusals.{Unrefused}
 use Rattle.laws.specs.Profiles.{Profile, values}
@@ -23,20 +24,23 @@ use Rattle.laws.proofs.Answered.{closing_whole, opposite_refused, opposite_7, op
 use Rattle.laws.proofs.Answered.{opposite_answers}
 use Rattle.model.specs.Asked.{asked}
 use Rattle.model.specs.declared.Model.{Model}
+use Rattle.model.specs.declared.refusals.Refusal.TheVariants.{MoreArrows}
+use Rattle.model.specs.Numbers.{number_of}
 use Rattle.closing.specs.Memory.{sets_in, profiles_in}
 use Rattle.closing.specs.Closing as closing
-use Rattle.closing.specs.declared.Closed.{Closed}
+use Rattle.closing.specs.Closing.{Closed}
+use Rattle.closing.specs.declared.Complete.{Complete}
+use Rattle.closing.specs.declared.Refused.{Refused}
 use Rattle.closing.proofs.Slices.{read_are, column_at}
 use Rattle.closing.proofs.SetTable as of_sets
 use Rattle.closing.proofs.ProfileTable as of_profiles
-use Rattle.closing.proofs.Promises.{sets_stand, profiles_stand}
 use Rattle.opposite.specs.Tables.{profiles_at}
 use Rattle.opposite.specs.Memory.{arrows_in, flags_in}
-use Rattle.opposite.specs.Drawing.{Draws, answer_of}
+use Rattle.opposite.specs.Drawing.{Draws}
 use Rattle.opposite.specs.Opposites.{told, tells, due, states_of, arrows_of, WritesOpposite}
 use Rattle.opposite.specs.declared.counts.Counts.{Counts}
-use Rattle.opposite.specs.declared.Answer.{Answer}
-use Rattle.opposite.specs.declared.Answer.TheVariants.{Refused}
+use Rattle.opposite.specs.declared.Written.{Written}
+use Rattle.model.proofs.Numbers.{some_number}
 
 -- THE MACHINE IN THE SLICES is what was written to them
 module _ (fs : List ℕ) (es : List Arrow) (O : OppositeSlices) where
@@ -77,7 +81,7 @@ module _ {m : Model} {lent : List ℕ} {S S' : SetSlices} {T T' : ProfileSlices}
   profiles_read = rw (c.profile_slices_are, c.profiles) ((of_profiles.profile_layout).back _ T)
 
   -- an answer that tells what document 01's tells, with what it writes in the slices, meets the contract
-  writes : {O O' : OppositeSlices} {answer : Answer} → told answer ≡ tells (due m lent S T O)
+  writes : {O O' : OppositeSlices} {answer : Result Written Refused} → told answer ≡ tells (due m lent S T O)
       → O' ≡ opposite_slices (due m lent S T O).flags (due m lent S T O).arrows O → WritesOpposite m lent S S' T T' O O' answer
   unfolding opposite_in closing_in tells states_of arrows_of
   writes {O} {O'} {answer} answered slices =
@@ -108,28 +112,14 @@ module _ {m : Model} {lent : List ℕ} {S S' : SetSlices} {T T' : ProfileSlices}
             (opposite_answers eight (asked m lent) a b s r (is_0 z));
       }
 
-  -- A REFUSAL of closing is the opposite's, and nothing is drawn
-  pub refuses : (O : OppositeSlices) → (closed.number ≡ 0 → ⊥)
-      → WritesOpposite m lent S S' T T' O O (Refused closed.number closed.sets closed.profiles)
-  unfolding opposite_in closing_in told tells opposite_slices over
-  refuses O refused = go closed.number refl
-    where
-      go : (n : ℕ) → closed.number ≡ n → WritesOpposite m lent S S' T T' O O (Refused closed.number closed.sets closed.profiles)
-      go zero e = absurd (refused e)
-      go (suc n) e =
-          let d = opposite_refused eight (asked m lent) (room_for_sets eight S) (room_for_profiles eight T) (room_for_states O) (room_for_arrows O) n
-          (sym c.number ∙ e) in
-          let refused_is : eqb (suc n) 0 ≡ false = ne_eqb (suc n) 0 (λ z. omega arith) in
-          writes (rw (d, e, c.sets, c.profiles, refused_is)) (rw d)
-
   -- the first places of the slices of masks, and of the profiles' arrows and marks
-  abbrev Ps : List ℕ
+  abbrev pub Ps : List ℕ
   Ps = take closed.sets S'.masks
 
-  abbrev leads : List ℕ
+  abbrev pub leads : List ℕ
   leads = take closed.profiles T'.arrows
 
-  abbrev marks : List ℕ
+  abbrev pub marks : List ℕ
   marks = take closed.profiles T'.marks
 
   -- what stands there are the sets and the profiles
@@ -149,73 +139,95 @@ module _ {m : Model} {lent : List ℕ} {S S' : SetSlices} {T T' : ProfileSlices}
         column_first (map (λ t. t.marks) ts) T.marks n (long ∙ sym (length-map ts (λ t. t.marks))),
       ) (profiles_back ts)
 
-  module _ (zero_is : closed.number ≡ 0) where
-    -- the model is not refused, and there are as many arrows as marks, and not more of them and of sets than the limits
-    pub drawable : Unrefused eight (asked m lent) × ((length marks ≡ length leads) × (length leads ≤ 2048) × (length Ps ≤ 256))
-    unfolding closing_in
-    drawable =
-        let s = sets_stand c in
-        let t = profiles_stand c in (
-          (closing_whole eight (asked m lent) (room_for_sets eight S) (room_for_profiles eight T) (sym c.number ∙ zero_is)).model,
-          (simp length-take (omega arith), simp length-take (omega arith), simp length-take (omega arith)),
-        )
+-- a refusal that is passed on
+pub passed_on : (x : Result Written Refused) (e : Refused) → IsErr x × IsErrAnd x (λ r. r ≡ e) → x ≡ Err e
+passed_on (Ok x) e (h, i) = absurd i
+passed_on (Err r) e (h, i) = ap Err i
 
-    -- WHAT IS DRAWN from them is what is due
-    pub draws : {O O' : OppositeSlices} {drawn : Counts} → Draws 8 (machine 8 (asked m lent)) m.k Ps (profiles_at leads marks) O O' drawn
-        → WritesOpposite m lent S S' T T' O O' (answer_of drawn closed.sets closed.profiles)
-    unfolding opposite_in closing_in answer_of told tells opposite_slices over
-    draws {O} {O'} {drawn} on_slices = go drawn.fits refl
-      where
-        M : Machine ℕ
-        M = machine 8 (asked m lent)
+-- A REFUSAL of closing is the opposite's, and nothing is drawn
+pub refuses : {m : Model} {lent : List ℕ} {S S' : SetSlices} {T T' : ProfileSlices} (O : OppositeSlices) (x : Refused)
+    → closing.Closing m lent S S' T T' (closing.told (Err x)) → WritesOpposite m lent S S' T T' O O (Err x)
+unfolding opposite_in closing_in told tells opposite_slices over
+refuses {m} {lent} {S} {S'} {T} {T'} O x c = go (number_of x.refusal) refl
+  where
+    go : (n : ℕ) → number_of x.refusal ≡ n → WritesOpposite m lent S S' T T' O O (Err x)
+    go zero e = absurd (some_number x.refusal e)
+    go (suc n) e =
+        let d = opposite_refused eight (asked m lent) (room_for_sets eight S) (room_for_profiles eight T) (room_for_states O) (room_for_arrows O) n
+        (sym c.number ∙ e) in
+        let refused_is : eqb (suc n) 0 ≡ false = ne_eqb (suc n) 0 (λ z. omega arith) in
+        writes c (rw (d, e, c.sets, c.profiles, refused_is)) (rw d)
 
-        bs : List Profile
-        bs = block_profiles 8 (values C.sets) (values C.profiles)
+-- what is answered with complete tables: the counts of both and of what was drawn, and where nothing was, 7
+abbrev pub answer_of : Complete → Maybe Counts → Result Written Refused
+answer_of x None = Err (record { refusal = MoreArrows; sets = x.sets; profiles = x.profiles })
+answer_of x (Some d) = Ok (record { sets = x.sets; profiles = x.profiles; states = d.states; arrows = d.arrows })
 
-        states : ℕ
-        states = state_count (values C.sets) (values C.profiles) bs
+module _ {m : Model} {lent : List ℕ} {S S' : SetSlices} {T T' : ProfileSlices} {x : Complete}
+    (c : closing.Closing m lent S S' T T' (closing.told (Ok x))) where
+  -- the model is not refused
+  pub unrefused : Unrefused eight (asked m lent)
+  unfolding closing_in
+  unrefused = (closing_whole eight (asked m lent) (room_for_sets eight S) (room_for_profiles eight T) (sym c.number)).model
 
-        lines : ℕ
-        lines = arrow_count 8 M m.k (values C.sets) (values C.profiles) bs
+  -- WHAT IS DRAWN from the tables is what is due
+  pub draws : {O O' : OppositeSlices} {drawn : Maybe Counts}
+      → Draws 8 (machine 8 (asked m lent)) m.k (Ps c) (profiles_at (leads c) (marks c)) O O' drawn
+      → WritesOpposite m lent S S' T T' O O' (answer_of x drawn)
+  unfolding opposite_in closing_in told tells opposite_slices over
+  draws {O} {O'} {drawn} on_slices = go drawn (rw (sets_are c, profiles_are c) at on_slices)
+    where
+      M : Machine ℕ
+      M = machine 8 (asked m lent)
 
-        d : Draws 8 M m.k (values C.sets) (values C.profiles) O O' drawn
-        d = rw (sets_are, profiles_are) at on_slices
+      C : ClosingAnswer
+      C = closing.due m lent S T
 
-        no_refusal : C.number ≡ 0
-        no_refusal = sym c.number ∙ zero_is
+      bs : List Profile
+      bs = block_profiles 8 (values C.sets) (values C.profiles)
 
-        -- what does not fit is too much of the one or of the other
-        too_much : drawn.fits ≡ false → (room_for_states O < states) ⊎ (room_for_arrows O < lines)
-        too_much e = cases (leb states (room_for_states O)) (leb lines (room_for_arrows O)) refl refl
-          where
-            cases : (x y : Bool) → leb states (room_for_states O) ≡ x → leb lines (room_for_arrows O) ≡ y
-                → (room_for_states O < states) ⊎ (room_for_arrows O < lines)
-            cases false y p q = inl (leb-false states (room_for_states O) p)
-            cases true false p q = inr (leb-false lines (room_for_arrows O) q)
-            cases true true p q = never (sym e ∙ d.counts.fits ∙ ap₂ ◌&&◌ p q)
+      states : ℕ
+      states = state_count (values C.sets) (values C.profiles) bs
 
-        go : (b : Bool) → drawn.fits ≡ b → WritesOpposite m lent S S' T T' O O' (answer_of drawn closed.sets closed.profiles)
-        go true e =
-            let x : Bool = leb states (room_for_states O) in
-            let y : Bool = leb lines (room_for_arrows O) in
-            let both : (x && y) ≡ true = sym d.counts.fits ∙ e in
-            let is =
-            opposite_0 eight (asked m lent) (room_for_sets eight S) (room_for_profiles eight T) (room_for_states O) (room_for_arrows O) no_refusal
-            (leb-true states (room_for_states O) (and_left x y both)) (leb-true lines (room_for_arrows O) (and_right x y both)) in
-            writes
-            (rw (
-              e,
-              answer_of,
-              is,
-              c.sets,
-              c.profiles,
-              d.counts.states_are e,
-              d.counts.arrows_are e,
-              states_counted (values C.sets) (values C.profiles) bs,
-              arrows_counted 8 M m.k (values C.sets) (values C.profiles),
-            ))
-            (rw is (d.drawn e))
-        go false e =
-            let is =
-            opposite_7 eight (asked m lent) (room_for_sets eight S) (room_for_profiles eight T) (room_for_states O) (room_for_arrows O) no_refusal (too_much e) in
-            writes (rw (e, answer_of, is, c.sets, c.profiles)) (rw is (d.untouched e))
+      lines : ℕ
+      lines = arrow_count 8 M m.k (values C.sets) (values C.profiles) bs
+
+      -- whether both fit
+      fit : Bool
+      fit = leb states (room_for_states O) && leb lines (room_for_arrows O)
+
+      -- what does not fit is too much of the one or of the other
+      too_much : fit ≡ false → (room_for_states O < states) ⊎ (room_for_arrows O < lines)
+      too_much e = cases (leb states (room_for_states O)) (leb lines (room_for_arrows O)) refl refl
+        where
+          cases : (x y : Bool) → leb states (room_for_states O) ≡ x → leb lines (room_for_arrows O) ≡ y
+              → (room_for_states O < states) ⊎ (room_for_arrows O < lines)
+          cases false y p q = inl (leb-false states (room_for_states O) p)
+          cases true false p q = inr (leb-false lines (room_for_arrows O) q)
+          cases true true p q = never (sym e ∙ ap₂ ◌&&◌ p q)
+
+      go : (drawn : Maybe Counts) → Draws 8 M m.k (values C.sets) (values C.profiles) O O' drawn
+          → WritesOpposite m lent S S' T T' O O' (answer_of x drawn)
+      go (Some h) d =
+          let a : Bool = leb states (room_for_states O) in
+          let b : Bool = leb lines (room_for_arrows O) in
+          let both : fit ≡ true = sym d.counts.fits in
+          let is =
+          opposite_0 eight (asked m lent) (room_for_sets eight S) (room_for_profiles eight T) (room_for_states O) (room_for_arrows O) (sym c.number)
+          (leb-true states (room_for_states O) (and_left a b both)) (leb-true lines (room_for_arrows O) (and_right a b both)) in
+          writes c
+          (rw (
+            is,
+            c.sets,
+            c.profiles,
+            d.counts.sizes.states_are,
+            d.counts.sizes.arrows_are,
+            states_counted (values C.sets) (values C.profiles) bs,
+            arrows_counted 8 M m.k (values C.sets) (values C.profiles),
+          ))
+          (rw is d.slices)
+      go None d =
+          let is =
+          opposite_7 eight (asked m lent) (room_for_sets eight S) (room_for_profiles eight T) (room_for_states O) (room_for_arrows O) (sym c.number)
+          (too_much (sym d.counts.fits)) in
+          writes c (rw (is, c.sets, c.profiles)) (rw is d.slices)

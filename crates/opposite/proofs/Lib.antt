@@ -6,8 +6,9 @@ pub mod Rows
 pub mod Looking
 -- what is listed for the events, from one of them on
 pub mod Events
--- arrows written one behind the other to three slices
+-- arrows written one behind the other to three slices, and by the writer
 pub mod Writing
+pub mod Lines
 -- from a set into the blocks, and from the sets on each event
 pub mod Entering
 pub mod Leaving

@@ -2,11 +2,12 @@
 -- stand in the slices are sorted and inside, and only the first k numbers of arrows are read.
 use Prim.Native.Nat.{ℕ, ◌≤◌, ◌<◌}
 use native.Mathlib.Omega.{arith}
-use mathlib.Core.Path.{◌≡◌, sym, ap, ◌∙◌}
+use mathlib.Core.Path.{◌≡◌, sym, ap, ap₂, ◌∙◌}
 use mathlib.Core.Bool.{true}
 use mathlib.Core.List.{List, map}
 use mathlib.Core.Option.{some}
 use lib.ListN.{length, take, get_elem?, length-map}
+use Rattle.std.specs.Prelude.{Result, Ok, Err}
 use Rattle.laws.specs.Model.{eight}
 use Rattle.laws.specs.Opposite.{Arrow, sorted}
 use Rattle.laws.specs.Answers.{SetSlices, ProfileSlices, OppositeSlices, room_for_sets, room_for_profiles, room_for_states, room_for_arrows, opposite_slices}
@@ -16,11 +17,13 @@ use Rattle.laws.proofs.Over.{written}
 use Rattle.laws.proofs.Read.{opposite_by_numbers}
 use Rattle.model.specs.Asked.{asked}
 use Rattle.model.specs.declared.Model.{Model}
+use Rattle.model.specs.Numbers.{number_of}
 use Rattle.closing.proofs.Promises.{one_closing}
 use Rattle.opposite.specs.Memory.{arrows_in}
 use Rattle.opposite.specs.Opposites.{told, tells, due, WritesOpposite}
-use Rattle.opposite.specs.declared.Answer.{Answer}
-use Rattle.opposite.specs.declared.Answer.TheVariants.{Written, Refused}
+use Rattle.closing.specs.declared.Refused.{Refused}
+use Rattle.opposite.specs.declared.Written.{Written}
+use Rattle.model.proofs.Numbers.{one_number}
 use Rattle.opposite.proofs.Concluding.{arrows_read}
 
 -- THE OPPOSITE reads only the first k numbers of arrows: with k there, no other matters
@@ -30,24 +33,36 @@ unfolding opposite_in
 opposite_first_k m arrows other S T O here there same =
     opposite_by_numbers (asked m arrows) other same eight here there (room_for_sets eight S) (room_for_profiles eight T) (room_for_states O) (room_for_arrows O)
 
+-- what is written is its four counts, and a refusal what is refused and both counts
+same_written : (x y : Written) → x.sets ≡ y.sets → x.profiles ≡ y.profiles → x.states ≡ y.states → x.arrows ≡ y.arrows → x ≡ y
+same_written x y s p t a =
+    ap₂ (λ m n. record { sets = m; profiles = n; states = x.states; arrows = x.arrows }) s p
+    ∙ ap₂ (λ m n. record { sets = y.sets; profiles = y.profiles; states = m; arrows = n }) t a
+
+same_refused : (x y : Refused) → number_of x.refusal ≡ number_of y.refusal → x.sets ≡ y.sets → x.profiles ≡ y.profiles → x ≡ y
+same_refused x y r s p =
+    ap (λ r. record { refusal = r; sets = x.sets; profiles = x.profiles }) (one_number x.refusal y.refusal r)
+    ∙ ap₂ (λ m n. record { refusal = y.refusal; sets = m; profiles = n }) s p
+
 -- no two answers tell the same
-told_once : (a b : Answer) → told a ≡ told b → a ≡ b
+told_once : (a b : Result Written Refused) → told a ≡ told b → a ≡ b
 unfolding told
 told_once a b e =
     go a b (ap (λ t. t.written) e) (ap (λ t. t.number) e) (ap (λ t. t.sets) e) (ap (λ t. t.profiles) e) (ap (λ t. t.states) e)
     (ap (λ t. t.arrows) e)
   where
-    go : (a b : Answer) → (told a).written ≡ (told b).written → (told a).number ≡ (told b).number → (told a).sets ≡ (told b).sets
-        → (told a).profiles ≡ (told b).profiles → (told a).states ≡ (told b).states → (told a).arrows ≡ (told b).arrows → a ≡ b
-    go (Written s p q r) (Written t o u v) w n g h i j = cc
-    go (Written s p q r) (Refused l t o) w n g h i j = cc
-    go (Refused k s p) (Written t o u v) w n g h i j = cc
-    go (Refused k s p) (Refused l t o) w n g h i j = cc
+    go : (a b : Result Written Refused) → (told a).written ≡ (told b).written → (told a).number ≡ (told b).number
+        → (told a).sets ≡ (told b).sets → (told a).profiles ≡ (told b).profiles → (told a).states ≡ (told b).states
+        → (told a).arrows ≡ (told b).arrows → a ≡ b
+    go (Ok x) (Ok y) w n g h i j = ap Ok (same_written x y g h i j)
+    go (Ok x) (Err y) w n g h i j = cc
+    go (Err x) (Ok y) w n g h i j = cc
+    go (Err x) (Err y) w n g h i j = ap Err (same_refused x y n g h)
 
-module _ {m : Model} {arrows : List ℕ} {S S' : SetSlices} {T T' : ProfileSlices} {O O' : OppositeSlices} {answer : Answer}
+module _ {m : Model} {arrows : List ℕ} {S S' : SetSlices} {T T' : ProfileSlices} {O O' : OppositeSlices} {answer : Result Written Refused}
     (w : WritesOpposite m arrows S S' T T' O O' answer) where
   -- it has one result: the answer, and what all lent memory holds
-  pub one_opposite : {S'' : SetSlices} {T'' : ProfileSlices} {O'' : OppositeSlices} {other : Answer}
+  pub one_opposite : {S'' : SetSlices} {T'' : ProfileSlices} {O'' : OppositeSlices} {other : Result Written Refused}
       → WritesOpposite m arrows S S'' T T'' O O'' other → (answer ≡ other) × (S' ≡ S'') × (T' ≡ T'') × (O' ≡ O'')
   one_opposite v =
       let (_, sets, profiles) = one_closing w.closing v.closing in

@@ -11,7 +11,11 @@ use borrow.Author.Tests.{ne_eqb}
 use Rattle.laws.specs.Bits.{place_of}
 use Rattle.laws.specs.Profiles.{Profile, same_profile}
 use Rattle.laws.proofs.Sorted.{place_in}
+use Rattle.profile.specs.declared.Profile as declared
+use Rattle.profile.specs.Values.{profile}
 use Rattle.opposite.specs.Tables.{profiles_at, keep_by}
+use Rattle.opposite.specs.Lent.{profiles_of}
+use Rattle.opposite.specs.declared.tables.Profiles.{Profiles}
 
 -- element number i, and what is left behind it
 pub next_left : {A : Type 0} (xs : List A) (i : ℕ) (d : A) → i < length xs → drop i xs ≡ get_or xs i d ∷ drop (i + 1) xs
@@ -55,6 +59,16 @@ next_profile_is arrows marks j h l = rw add-one (go arrows marks j h l)
 
 pub no_profile : (arrows marks : List ℕ) (j : ℕ) → length marks ≡ length arrows → length arrows ≤ j → drop j (profiles_at arrows marks) ≡ []
 no_profile arrows marks j h l = none_left (profiles_at arrows marks) j (omega (arith, profiles_length arrows marks h))
+
+-- in the code's table: the profile that it has at number j, and what is left behind it
+pub next_at : (ps : Profiles) (j : ℕ) {n : ℕ} → n ≡ length ps.arrows.now → j < n → {x : declared.Profile}
+    → x ≡ record { arrows = get_or ps.arrows.now j 0; marks = get_or ps.marks.now j 0 }
+    → drop j (profiles_of ps) ≡ profile x ∷ drop (j + 1) (profiles_of ps)
+next_at ps j long here is = rw is (next_profile_is ps.arrows.now ps.marks.now j ps.alike (omega arith))
+
+-- and at the end nothing
+pub none_at : (ps : Profiles) (j : ℕ) {n : ℕ} → n ≡ length ps.arrows.now → n ≤ j → drop j (profiles_of ps) ≡ []
+none_at ps j long end = no_profile ps.arrows.now ps.marks.now j ps.alike (omega arith)
 
 -- of the profiles beside which there is a 1, those that are left from number j on
 abbrev pub kept_from : List ℕ → List Profile → ℕ → List Profile

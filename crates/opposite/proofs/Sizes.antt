@@ -1,19 +1,21 @@
 -- How many states, arrows and blocks the opposite has: what the profiles add one after the other is what document 01 counts.
-use Prim.Native.Nat.{ℕ, ◌+◌, ◌*◌, ◌≤◌, ◌<◌}
+use Prim.Native.Nat.{ℕ, ◌+◌, ◌*◌, ◌≤◌}
 use native.Mathlib.Omega.{arith}
 use native.Mathlib.Nat.{zero-mul, mul-zero, suc-mul, mul-add, mul_assoc, mul-le-mul_left, mul-le-mul_right, le_trans}
-use mathlib.Core.Path.{◌≡◌, refl, sym, ap, ◌∙◌}
-use mathlib.Core.Bool.{Bool, true, false, cond, ◌&&◌, and-false}
+use mathlib.Core.Path.{◌≡◌, refl, sym, ap, ap₂, ◌∙◌}
+use mathlib.Core.Bool.{Bool, true, false, cond, ◌&&◌}
 use mathlib.Core.Logic.{inl, inr}
 use mathlib.Core.List.{List, [], ◌∷◌}
 use lib.ListN.{length, drop}
 use lib.Dec.{leb}
-use borrow.Author.Tests.{lt-leb, le-leb}
+use borrow.Author.Tests.{le-leb, leb-true}
+use Rattle.std.specs.Prelude.{None}
+use Rattle.std.specs.Bool.{then_some}
 use Rattle.laws.specs.Bits.{some_of, keep, total, count}
 use Rattle.laws.specs.Model.{Machine}
 use Rattle.laws.specs.Profiles.{Profile}
 use Rattle.laws.specs.Opposite.{has_block, rejects_non_empty, second_count, block_profiles, pair_count, state_count, arrow_count}
-use Rattle.laws.proofs.Booleans.{both, never}
+use Rattle.laws.proofs.Booleans.{both}
 use Rattle.opposite.specs.Drawing.{Counted}
 use Rattle.opposite.specs.declared.counts.Counts.{Counts}
 use Rattle.opposite.proofs.Adding.{Adding, add_begins, add_next, add_ends, total_most, few_seconds}
@@ -116,19 +118,18 @@ module _ (W : ℕ) (M : Machine ℕ) (k : ℕ) (Ps : List ℕ) (ts : List Profil
   all_lines = arrow_count W M k Ps ts (block_profiles W Ps ts)
 
   -- HOW FAR THE SIZE IS COUNTED: so many blocks, states and arrows so far, and those of the profiles from number j on are left
-  pub record Sized (blocks states lines j : ℕ) : Type 0 where
-    pub blocks_left : Counting (has_block W Ps) ts blocks j
-    pub states_are_left : Adding (block_states W Ps ts) ts all_states states j
-    pub lines_left : Adding (block_arrows W Ps ts M k) ts all_lines lines j
+  pub record Sized (c : Counts) (j : ℕ) : Type 0 where
+    pub blocks_left : Counting (has_block W Ps) ts c.blocks j
+    pub states_are_left : Adding (block_states W Ps ts) ts all_states c.states j
+    pub lines_left : Adding (block_arrows W Ps ts M k) ts all_lines c.arrows j
 
-  -- an answer that it does not fit is right where a test of both fails
-  no_fit : {state_room arrow_room : ℕ} {answer : Counts} → answer.fits ≡ false
-      → (leb all_states state_room && leb all_lines arrow_room) ≡ false → Counted W M k Ps ts state_room arrow_room answer
-  no_fit e f =
-      record { fits = e ∙ sym f; blocks = λ h. never (sym e ∙ h); states_are = λ h. never (sym e ∙ h); arrows_are = λ h. never (sym e ∙ h) }
+  -- without an answer, it does not fit where a test of both fails
+  no_fit : {state_room arrow_room : ℕ} → (leb all_states state_room && leb all_lines arrow_room) ≡ false
+      → Counted W M k Ps ts state_room arrow_room None
+  no_fit f = record { fits = sym f; sizes = tt }
 
   -- at first there are the sets, and from each an arrow on every event
-  pub size_begins : Sized 0 (length Ps) (length Ps * k) 0
+  pub size_begins : Sized (record { blocks = 0; states = length Ps; arrows = length Ps * k }) 0
   size_begins =
       record {
         blocks_left = count_begins (has_block W Ps) ts;
@@ -136,11 +137,11 @@ module _ (W : ℕ) (M : Machine ℕ) (k : ℕ) (Ps : List ℕ) (ts : List Profil
         lines_left = add_begins (block_arrows W Ps ts M k) ts (arrows_add W Ps ts M k);
       }
 
-  module _ {blocks states lines j : ℕ} (so : Sized blocks states lines j) where
+  module _ {c : Counts} {j : ℕ} (so : Sized c j) where
     -- t is next, and rejects with so many sets other than the empty one
     module _ (t : Profile) (next : drop j ts ≡ t ∷ drop (j + 1) ts) {pairs : ℕ} (are : pairs ≡ count (λ P. rejects_non_empty W P t) Ps) where
       -- with none: it adds nothing
-      pub size_passes : pairs ≡ 0 → Sized blocks states lines (j + 1)
+      pub size_passes : pairs ≡ 0 → Sized c (j + 1)
       unfolding block_states block_arrows
       size_passes e =
           let none : has_block W Ps t ≡ false = no_pair_no_block W Ps t are e in
@@ -152,7 +153,7 @@ module _ (W : ℕ) (M : Machine ℕ) (k : ℕ) (Ps : List ℕ) (ts : List Profil
 
       -- with some: it adds a block
       pub size_grows : (pairs ≡ 0 → ⊥) → {size seconds : ℕ} → size ≡ length ts + 1 → seconds ≡ second_count W M k ts t
-          → Sized (blocks + 1) (states + size) (lines + (k * pairs + size * k) + seconds) (j + 1)
+          → Sized (record { blocks = c.blocks + 1; states = c.states + size; arrows = c.arrows + (k * pairs + size * k) + seconds }) (j + 1)
       unfolding block_states block_arrows
       size_grows n e f =
           let has : has_block W Ps t ≡ true = pair_has_block W Ps t are n in
@@ -163,7 +164,7 @@ module _ (W : ℕ) (M : Machine ℕ) (k : ℕ) (Ps : List ℕ) (ts : List Profil
           }
 
     -- with so few profiles, sets and events all stay small: a block has at most 2049 states, and at most 16·256 + 2049·16 + 32784 arrows
-    pub size_room : k ≤ 16 → length ts ≤ 2048 → length Ps ≤ 256 → (blocks ≤ 2048) × (states ≤ 4196608) × (lines ≤ 142675968)
+    pub size_room : k ≤ 16 → length ts ≤ 2048 → length Ps ≤ 256 → (c.blocks ≤ 2048) × (c.states ≤ 4196608) × (c.arrows ≤ 142675968)
     unfolding block_states block_arrows
     size_room few_events few_profiles few_sets = (
       omega (arith, so.blocks_left.adds.left, count_most (has_block W Ps) ts),
@@ -196,28 +197,40 @@ module _ (W : ℕ) (M : Machine ℕ) (k : ℕ) (Ps : List ℕ) (ts : List Profil
             (omega (arith, product few_events few_pairs, product few_states few_events, few_seconds W M k t ts few_events few_profiles))
 
     module _ {state_room arrow_room : ℕ} where
-      -- with more states so far than there is room for, or more arrows, the opposite does not fit
-      pub too_many_states : {answer : Counts} → answer.fits ≡ false → state_room < states
-          → Counted W M k Ps ts state_room arrow_room answer
-      too_many_states e l =
-          let more : state_room < all_states = omega (arith, so.states_are_left.left) in
-          no_fit e (rw (lt-leb all_states state_room more))
+      -- where what is counted so far does not fit, the opposite does not
+      pub too_much : {n : ℕ} → n ≤ c.arrows → (leb c.states state_room && leb n arrow_room) ≡ false
+          → Counted W M k Ps ts state_room arrow_room None
+      too_much {n} h e = no_fit (go (leb all_states state_room) (leb all_lines arrow_room) refl refl)
+        where
+          go : (a b : Bool) → leb all_states state_room ≡ a → leb all_lines arrow_room ≡ b → (a && b) ≡ false
+          go false b p q = refl
+          go true false p q = refl
+          go true true p q =
+              let states_fit : c.states ≤ state_room = omega (arith, so.states_are_left.left, leb-true all_states state_room p) in
+              let lines_fit : n ≤ arrow_room = omega (arith, so.lines_left.left, leb-true all_lines arrow_room q) in
+              sym (both (le-leb c.states state_room states_fit) (le-leb n arrow_room lines_fit)) ∙ e
 
-      pub too_many_lines : {answer : Counts} → answer.fits ≡ false → {n : ℕ} → arrow_room < n → n ≤ lines
-          → Counted W M k Ps ts state_room arrow_room answer
-      too_many_lines e l h =
-          let more : arrow_room < all_lines = omega (arith, so.lines_left.left) in
-          no_fit e (rw (lt-leb all_lines arrow_room more) (and-false (leb all_states state_room)))
+      -- at the end all is counted, and fits or does not
+      pub all_counted : drop j ts ≡ [] → {b : Bool} → b ≡ (leb c.states state_room && leb c.arrows arrow_room)
+          → Counted W M k Ps ts state_room arrow_room (then_some b c)
+      all_counted end {b} e = go b (e ∙ ap₂ (λ m n. leb m state_room && leb n arrow_room) states_are arrows_are)
+        where
+          states_are : c.states ≡ all_states
+          states_are = add_ends (block_states W Ps ts) ts so.states_are_left end
 
-      -- at the end, with room for both, all is counted
-      pub all_fit : drop j ts ≡ [] → states ≤ state_room → lines ≤ arrow_room
-          → Counted W M k Ps ts state_room arrow_room (record { fits = true; blocks = blocks; states = states; arrows = lines })
-      all_fit end h l =
-          let states_are : states ≡ all_states = add_ends (block_states W Ps ts) ts so.states_are_left end in
-          let arrows_are : lines ≡ all_lines = add_ends (block_arrows W Ps ts M k) ts so.lines_left end in
-          record {
-            fits = sym (both (le-leb all_states state_room (omega arith)) (le-leb all_lines arrow_room (omega arith)));
-            blocks = λ _. count_ends (has_block W Ps) ts so.blocks_left end ∙ sym (blocks_counted W Ps ts);
-            states_are = λ _. states_are;
-            arrows_are = λ _. arrows_are;
-          }
+          arrows_are : c.arrows ≡ all_lines
+          arrows_are = add_ends (block_arrows W Ps ts M k) ts so.lines_left end
+
+          go : (b : Bool) → b ≡ (leb all_states state_room && leb all_lines arrow_room)
+              → Counted W M k Ps ts state_room arrow_room (then_some b c)
+          go true f =
+              record {
+                fits = f;
+                sizes =
+                    record {
+                      blocks = count_ends (has_block W Ps) ts so.blocks_left end ∙ sym (blocks_counted W Ps ts);
+                      states_are = states_are;
+                      arrows_are = arrows_are;
+                    };
+              }
+          go false f = no_fit (sym f)

@@ -3,25 +3,23 @@
 use Prim.Native.Nat.{ℕ, suc, ◌+◌, ◌*◌, ◌≤◌}
 use native.Mathlib.Omega.{arith}
 use native.Mathlib.Nat.{mul-le-mul_right}
-use mathlib.Core.Path.{◌≡◌, refl, sym, ap, ap₂, ◌∙◌, subst}
-use mathlib.Core.Bool.{Bool, true, false, cond, ◌&&◌}
+use mathlib.Core.Path.{◌≡◌, refl, sym, ap, ap₂, ◌∙◌}
+use mathlib.Core.Bool.{Bool, true, false, cond}
 use mathlib.Core.List.{List, [], ◌∷◌, ◌++◌, map, append-nil}
 use lib.ListN.{length, take, drop, length-map}
 use lib.Seq.{take_all, take_at, length-take-le}
-use lib.Dec.{eqb, leb}
-use borrow.Author.Tests.{eqb-true, eqb-false, leb-true}
+use lib.Dec.{eqb}
+use borrow.Author.Tests.{eqb-true, eqb-false}
 use Rattle.laws.specs.Bits.{every_of}
 use Rattle.laws.specs.Model.{Machine}
 use Rattle.laws.specs.Profiles.{Profile}
-use Rattle.laws.specs.Opposite.{has_block, Arrow, block_profiles, state_count, arrow_count, flags, arrows}
-use Rattle.laws.specs.Answers.{OppositeSlices, opposite_slices, room_for_states, room_for_arrows, over}
-use Rattle.laws.proofs.Booleans.{and_left, and_right, never}
+use Rattle.laws.specs.Opposite.{has_block, Arrow, block_profiles, state_count, flags, arrows}
+use Rattle.laws.specs.Answers.{opposite_slices, room_for_states, room_for_arrows, over}
 use Rattle.laws.proofs.Over.{over_again, over_length}
 use Rattle.laws.proofs.Counts.{arrows_counted}
 use Rattle.opposite.specs.Tables.{profiles_at, keep_by, is_idempotent}
 use Rattle.opposite.specs.Memory.{put_at, ArrowSlices, arrow_memory, opposite_memory, put, Room, Puts}
-use Rattle.opposite.specs.Drawing.{sets_from, blocks_from, flags_of, Counted, Fitting, Drawn, Draws}
-use Rattle.opposite.specs.declared.counts.Counts.{Counts}
+use Rattle.opposite.specs.Drawing.{sets_from, blocks_from, flags_of, Fitting, Drawn}
 use Rattle.opposite.proofs.Rows.{profiles_length}
 use Rattle.opposite.proofs.Writing.{Writing, begin, left_as, room_next, write_next, all_written}
 use Rattle.opposite.proofs.Paper.{arrows_are_paper, flags_are_paper, flags_long, shown_are_blocks, blocks_idempotent}
@@ -37,7 +35,7 @@ blocks_of W Ps leads marks = block_profiles W Ps (profiles_at leads marks)
 
 -- what is noted of the first n profiles
 abbrev noted : ℕ → List ℕ → List ℕ → List ℕ → ℕ → List ℕ
-noted W Ps leads marks n = map (λ t. cond (has_block W Ps t) 1 0) (profiles_at (take n leads) (take n marks))
+noted W Ps leads marks n = map (λ t. cond (has_block W Ps t) 1 0) (take n (profiles_at leads marks))
 
 -- AN OPPOSITE THAT FITS is to be written to the slices from, event, to and fs. Of its first n profiles it is noted which have a block: the
 -- flags are now `new`, and their first n say which blocks there are
@@ -89,9 +87,9 @@ module _ (W : ℕ) (M : Machine ℕ) (k : ℕ) (Ps leads marks : List ℕ) (same
           let one : suc 0 * (length leads + 1) ≤ h * (length leads + 1) = mul-le-mul_right (length leads + 1) (omega arith) in
           let says : Profile → ℕ = λ t. cond (has_block W Ps t) 1 0 in
           let ts : List Profile = profiles_at leads marks in
-          let all : said ≡ map says ts =
-          ap₂ (λ l m. map says (profiles_at l m)) (take_all n leads (omega arith)) (take_all n marks (omega arith)) in
-          stand (omega arith) (omega arith) (ap length all ∙ length-map ts says ∙ profiles_length leads marks same ∙ sym all_of)
+          let as_many = profiles_length leads marks same in
+          let all : said ≡ map says ts = ap (map says) (take_all n ts (omega arith)) in
+          stand (omega arith) (omega arith) (ap length all ∙ length-map ts says ∙ as_many ∙ sym all_of)
           (ap (λ l. keep_by l ts) all ∙ shown_are_blocks W Ps ts)
 
 module _ {W : ℕ} {M : Machine ℕ} {k : ℕ} {Ps leads marks from event to fs : List ℕ} {h n : ℕ} {new : List ℕ}
@@ -200,32 +198,3 @@ module _ {W : ℕ} {M : Machine ℕ} {k : ℕ} {Ps leads marks from event to fs 
     drawn p e =
         let all = all_written (write_next drawing_blocks blocks_arrows [] (sym (append-nil blocks_arrows)) p) refl in
         ap₂ (λ (l : ArrowSlices) g. opposite_memory l.from l.event l.to g) all.slices (flags_put e)
-
--- WHAT WAS COUNTED for rooms that are those of the slices O
-module _ {W : ℕ} {M : Machine ℕ} {k : ℕ} {Ps : List ℕ} {ts : List Profile} (O : OppositeSlices) {state_room arrow_room : ℕ}
-    {answer : Counts} (p : state_room ≡ room_for_states O) (q : arrow_room ≡ room_for_arrows O)
-    (c : Counted W M k Ps ts state_room arrow_room answer) where
-  -- it was counted for the slices
-  counted_room : Counted W M k Ps ts (room_for_states O) (room_for_arrows O) answer
-  counted_room = subst (λ r. Counted W M k Ps ts (room_for_states O) r answer) q (subst (λ r. Counted W M k Ps ts r arrow_room answer) p c)
-
-  module _ (e : answer.fits ≡ true) where
-    -- it fits
-    pub fitting : Fitting W M k Ps ts O answer.blocks
-    fitting =
-        let states = leb (state_count Ps ts (block_profiles W Ps ts)) (room_for_states O) in
-        let lines = leb (arrow_count W M k Ps ts (block_profiles W Ps ts)) (room_for_arrows O) in
-        let both : (states && lines) ≡ true = sym counted_room.fits ∙ e in
-        record {
-          blocks = c.blocks e;
-          states_fit = leb-true _ _ (and_left states lines both);
-          arrows_fit = leb-true _ _ (and_right states lines both);
-        }
-
-    -- and was written
-    pub written : {O' : OppositeSlices} → Drawn W M k Ps ts O O' → Draws W M k Ps ts O O' answer
-    written d = record { counts = counted_room; drawn = λ _. d; untouched = λ f. never (sym f ∙ e) }
-
-  -- it does not fit, and nothing was written
-  pub unwritten : answer.fits ≡ false → Draws W M k Ps ts O O answer
-  unwritten e = record { counts = counted_room; drawn = λ t. never (sym e ∙ t); untouched = λ _. refl }

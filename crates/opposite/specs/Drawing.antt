@@ -1,6 +1,6 @@
 -- The opposite's flags and arrows by running state numbers, as its code writes them: the gate of a block is g, and the next block's
 -- gate is as many states behind it as a block has.
-use Rattle.std.specs.Prelude.{ℕ, zero, suc, ◌+◌, ◌≤◌, ◌≡◌, true, false, cond, ◌&&◌, List, [], ◌∷◌, ◌++◌, map, length, replicate, eqb, leb}
+use Rattle.std.specs.Prelude.{ℕ, zero, suc, ◌+◌, ◌≤◌, ◌≡◌, cond, ◌&&◌, List, [], ◌∷◌, ◌++◌, map, length, replicate, eqb, leb, is_some, IfSome, MatchOption, Option as Maybe}
 use Rattle.std.proofs.Math.Option.{Option, none, some}
 use Rattle.laws.specs.Bits.{place_of, each_below}
 use Rattle.laws.specs.Model.{Machine}
@@ -8,8 +8,6 @@ use Rattle.laws.specs.Profiles.{Profile, same_profile, after, event_profile, nex
 use Rattle.laws.specs.Opposite.{Arrow, arrow, rejects_non_empty, block_profiles, state_count, arrow_count, flags, arrows}
 use Rattle.laws.specs.Answers.{OppositeSlices, opposite_slices, room_for_states, room_for_arrows}
 use Rattle.opposite.specs.declared.counts.Counts.{Counts}
-use Rattle.opposite.specs.declared.Answer.{Answer}
-use Rattle.opposite.specs.declared.Answer.TheVariants.{Written, Refused}
 
 module _ (ts : List Profile) where
   -- from state p on event a onto the profile y, in the block of t with gate g: to the gate too if y is t, and to the state of y
@@ -74,11 +72,15 @@ module _ (W : ℕ) (M : Machine ℕ) (k : ℕ) (Ps : List ℕ) (ts : List Profil
   abbrev lines : ℕ
   lines = arrow_count W M k Ps ts bs
 
-  pub record Counted (state_room arrow_room : ℕ) (answer : Counts) : Type 0 where
-    pub fits : answer.fits ≡ (leb states state_room && leb lines arrow_room)
-    pub blocks : answer.fits ≡ true → answer.blocks ≡ length bs
-    pub states_are : answer.fits ≡ true → answer.states ≡ states
-    pub arrows_are : answer.fits ≡ true → answer.arrows ≡ lines
+  -- its blocks, states and arrows are these
+  pub record Sizes (c : Counts) : Type 0 where
+    pub blocks : c.blocks ≡ length bs
+    pub states_are : c.states ≡ states
+    pub arrows_are : c.arrows ≡ lines
+
+  pub record Counted (state_room arrow_room : ℕ) (answer : Maybe Counts) : Type 0 where
+    pub fits : is_some answer ≡ (leb states state_room && leb lines arrow_room)
+    pub sizes : IfSome answer Sizes
 
   -- the opposite fits the slices, and has h blocks
   pub record Fitting (O : OppositeSlices) (h : ℕ) : Type 0 where
@@ -91,12 +93,6 @@ module _ (W : ℕ) (M : Machine ℕ) (k : ℕ) (Ps : List ℕ) (ts : List Profil
   Drawn O O' = O' ≡ opposite_slices (flags Ps ts bs) (arrows W M k Ps ts bs) O
 
   -- WHAT IS DRAWN: nothing where it does not fit, and else its flags and arrows
-  pub record Draws (O O' : OppositeSlices) (answer : Counts) : Type 0 where
+  pub record Draws (O O' : OppositeSlices) (answer : Maybe Counts) : Type 0 where
     pub counts : Counted (room_for_states O) (room_for_arrows O) answer
-    pub drawn : answer.fits ≡ true → Drawn O O'
-    pub untouched : answer.fits ≡ false → O' ≡ O
-
--- the answer after closing without refusal, from what was drawn: 7 where the opposite does not fit
-unfoldable pub answer_of : Counts → ℕ → ℕ → Answer
-answer_of drawn sets profiles =
-    elim drawn.fits [ true ↦ Written sets profiles drawn.states drawn.arrows | false ↦ Refused 7 sets profiles ]
+    pub slices : MatchOption answer (O' ≡ O) (λ _. Drawn O O')

@@ -3,6 +3,7 @@ use Rattle.std.specs.Prelude.{ℕ, ◌+◌, ◌≤◌, ◌≡◌, List, map, ◌
 use Rattle.laws.specs.Bits.{counted}
 use Rattle.laws.specs.Opposite.{Arrow, arrow}
 use Rattle.laws.specs.Answers.{OppositeSlices, over}
+use Rattle.opposite.specs.declared.arrows.Lines.{Lines}
 
 -- a slice after xs was written from place n on: what stood before, then xs, then what stood behind
 unfoldable pub put_at : ℕ → List ℕ → List ℕ → List ℕ
@@ -40,6 +41,25 @@ pub record Room (n : ℕ) (es : List Arrow) (l : ArrowSlices) : Type 0 where
 pub record Puts (n : ℕ) (es : List Arrow) (old new : ArrowSlices) (answer : ℕ) : Type 0 where
   pub slices : new ≡ put n es old
   pub behind : answer ≡ n + length es
+
+-- THE WRITER: its slices
+abbrev pub slices_of : Lines → ArrowSlices
+slices_of l = arrow_memory l.from.now l.event.now l.to.now
+
+-- there is room for the arrows behind those that stand there
+pub record HasRoom (es : List Arrow) (l : Lines) : Type 0 where
+  pub room : Room l.count es (slices_of l)
+
+-- it has the slices that it had, and no others
+pub record SameLines (new old : Lines) : Type 0 where
+  pub from : new.from.ghost_name ≡ old.from.ghost_name
+  pub event : new.event.ghost_name ≡ old.event.ghost_name
+  pub to : new.to.ghost_name ≡ old.to.ghost_name
+
+-- the arrows were written behind those that stood there
+pub record Adds (es : List Arrow) (old new : Lines) : Type 0 where
+  pub puts : Puts old.count es (slices_of old) (slices_of new) new.count
+  pub same : SameLines new old
 
 -- THE MACHINE IN THE SLICES: the first so many arrows and flags
 unfoldable pub arrows_in : OppositeSlices → ℕ → List Arrow

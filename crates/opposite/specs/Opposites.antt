@@ -1,5 +1,5 @@
 -- What the opposite ensures, for every model and every slice: the answer, all memory, and demand 3.
-use Rattle.std.specs.Prelude.{ℕ, ◌<◌, ◌≡◌, Bool, true, false, ◌⊎◌, ◌↔◌, List, length, eqb}
+use Rattle.std.specs.Prelude.{ℕ, ◌<◌, ◌≡◌, Bool, true, false, ◌⊎◌, ◌↔◌, List, length, eqb, Result, Ok, Err}
 use Rattle.laws.specs.Model.{eight, machine}
 use Rattle.laws.specs.Profiles.{values}
 use Rattle.laws.specs.Opposite.{block_profiles, state_count, arrow_count, written, Opposed}
@@ -7,11 +7,11 @@ use Rattle.laws.specs.Answers.{SetSlices, ProfileSlices, OppositeSlices, room_fo
 use Rattle.model.specs.Asked.{asked}
 use Rattle.model.specs.declared.Model.{Model}
 use Rattle.closing.specs.Memory.{sets_in, profiles_in}
-use Rattle.closing.specs.Closing.{Closing}
-use Rattle.closing.specs.declared.Closed.{Closed}
+use Rattle.model.specs.Numbers.{number_of}
+use Rattle.closing.specs.Closing.{Closed, Closing}
+use Rattle.closing.specs.declared.Refused.{Refused}
 use Rattle.opposite.specs.Memory.{arrows_in, flags_in}
-use Rattle.opposite.specs.declared.Answer.{Answer}
-use Rattle.opposite.specs.declared.Answer.TheVariants.{Written, Refused}
+use Rattle.opposite.specs.declared.Written.{Written}
 
 -- what an answer tells: document 01's number, whether an opposite was written, the counts of both tables, and those of the opposite
 pub record Told : Type 0 where
@@ -23,9 +23,9 @@ pub record Told : Type 0 where
   pub arrows : ℕ
 
 -- THE NUMBER AND THE VALUES of each case of the answer
-unfoldable pub told : Answer → Told
-told (Written s p q a) = record { number = 0; written = true; sets = s; profiles = p; states = q; arrows = a }
-told (Refused n s p) = record { number = n; written = false; sets = s; profiles = p; states = 0; arrows = 0 }
+unfoldable pub told : Result Written Refused → Told
+told (Ok x) = record { number = 0; written = true; sets = x.sets; profiles = x.profiles; states = x.states; arrows = x.arrows }
+told (Err x) = record { number = number_of x.refusal; written = false; sets = x.sets; profiles = x.profiles; states = 0; arrows = 0 }
 
 -- what document 01's answer tells
 unfoldable pub tells : OppositeAnswer → Told
@@ -59,7 +59,7 @@ module _ (m : Model) (arrows : List ℕ) where
   due S T O = opposite_in eight (asked m arrows) S T O
 
   -- THE CONTRACT OF THE OPPOSITE: S, T and O are as they were lent, S', T' and O' as they are left
-  pub record WritesOpposite (S S' : SetSlices) (T T' : ProfileSlices) (O O' : OppositeSlices) (answer : Answer) : Type 0 where
+  pub record WritesOpposite (S S' : SetSlices) (T T' : ProfileSlices) (O O' : OppositeSlices) (answer : Result Written Refused) : Type 0 where
     -- what closing answers here, and by its contract what stands in the slices of sets and profiles
     pub closed : Closed
     pub closing : Closing m arrows S S' T T' closed

@@ -1,348 +1,140 @@
 // The opposite's arrows, written one behind the other to three lent slices.
-ghost use Rattle.std.specs.Prelude.{◌+◌, ◌*◌, ◌<◌, ◌≤◌, ◌≡◌, true, [], ◌∷◌, length};
-ghost use Rattle.laws.specs.Bits.{every_of, each_below};
-ghost use Rattle.laws.specs.Model.{eight, machine};
-ghost use Rattle.laws.specs.Refusals.{Unrefused};
+ghost use Rattle.std.specs.Prelude.{◌+◌, ◌≤◌, [], ◌∷◌, length};
 ghost use Rattle.laws.specs.Opposite.{arrow};
-ghost use Rattle.model.specs.Asked.{asked};
-ghost use Rattle.profile.specs.Values.{profile, before as before_of};
-ghost use Rattle.opposite.specs.Tables.{profiles_at, keep_by, is_idempotent};
-ghost use Rattle.opposite.specs.Memory.{arrow_memory, Room, Puts};
-ghost use Rattle.opposite.specs.Drawing.{onto_at, arrows_into_blocks, leads_onward, block_at, blocks_from, set_on, sets_from};
+ghost use Rattle.opposite.specs.Memory.{HasRoom, Adds};
+ghost use Rattle.opposite.specs.Lines.{Shows, onto_lines, leads_lines, block_lines, blocks_lines, into_lines, set_lines, sets_lines};
 
-use crate::counts::stays_unmarked;
-use crate::tables::{place_of_profile, place_of_set};
-use model::Model;
-use profile::{Before, Profile, image, is_same, next, of_event};
+use crate::counts::{next_on, stays_unmarked};
+use crate::tables::{Profiles, Tables, place_of_set};
+use profile::{Profile, image, of_event};
 
-// Writes the arrow on event a from p to q to place n, and gives the place behind it.
-fn put(
-    from: &mut [u16],
-    event: &mut [u8],
-    to: &mut [u16],
-    n: usize,
-    p: usize,
-    a: usize,
-    q: usize,
-) -> usize
-    requires room { Room n (arrow p a q ∷ []) (arrow_memory from.old event.old to.old) }
-    requires p_bound { (p ≤ 65535) × (a ≤ 255) × (q ≤ 65535) }
-    ensures { Puts n (arrow p a q ∷ []) (arrow_memory from.old event.old to.old)
-        (arrow_memory from.new event.new to.new) result }
-{
-    from[n] = p as u16;
-    event[n] = a as u8;
-    to[n] = q as u16;
-    n + 1
+// The slices that arrows are written to, and how many stand there.
+#[derive(Drop)]
+pub struct Lines<'a> {
+    pub from: &'a mut [u16],
+    pub event: &'a mut [u8],
+    pub to: &'a mut [u16],
+    pub count: usize,
 }
 
-// From p on event a onto the profile y in the block of t: to its gate too, where y is t, and to the state of y.
-fn onto(
-    arrows: &[u64],
-    marks: &[u64],
+// A block: its gate's number, and its profile.
+#[derive(Clone, Copy)]
+struct Block {
     gate: usize,
-    t: Profile,
-    p: usize,
-    a: usize,
-    y: Profile,
-    from: &mut [u16],
-    event: &mut [u8],
-    to: &mut [u16],
-    n: usize,
-) -> usize
-    requires marks_len { (length marks.now ≡ length arrows.now) × (gate + 1 + length arrows.now ≤ 65535) × (p ≤ 65535) × (a ≤ 255) }
-    requires room { Room n (onto_at (profiles_at arrows.now marks.now) gate (profile t) p a (profile y))
-        (arrow_memory from.old event.old to.old) }
-    ensures { Puts n (onto_at (profiles_at arrows.now marks.now) gate (profile t) p a (profile y))
-        (arrow_memory from.old event.old to.old)
-        (arrow_memory from.new event.new to.new) result }
-{
-    let state = gate + 1 + place_of_profile(arrows, marks, y);
-    if is_same(y, t) {
-        let behind = put(from, event, to, n, p, a, gate);
-        return put(from, event, to, behind, p, a, state);
-    }
-    put(from, event, to, n, p, a, state)
+    profile: Profile,
 }
 
-// In the block of t from p, where what was read has the profile x: on each event onto the next.
-fn leads_on(
-    m: Model,
-    lent: &[u64],
-    arrows: &[u64],
-    marks: &[u64],
-    gate: usize,
-    t: Profile,
-    p: usize,
-    x: Before,
-    from: &mut [u16],
-    event: &mut [u8],
-    to: &mut [u16],
-    n: usize,
-) -> usize
-    requires unrefused { Unrefused eight (asked m lent.now) }
-    requires marks_len { (length marks.now ≡ length arrows.now) × (gate + 1 + length arrows.now ≤ 65535) × (p ≤ 65535) }
-    requires room { Room n (leads_onward 8 (machine 8 (asked m lent.now)) m.k (profiles_at arrows.now marks.now)
-        gate (profile t) p (before_of x)) (arrow_memory from.old event.old to.old) }
-    ensures { Puts n (leads_onward 8 (machine 8 (asked m lent.now)) m.k
-        (profiles_at arrows.now marks.now) gate (profile t) p (before_of x))
-        (arrow_memory from.old event.old to.old)
-        (arrow_memory from.new event.new to.new) result }
-{
-    let mut place = n;
-    let mut a = 0;
-    while a < m.k {
-        let y = next(x, of_event(lent[a], m.home));
-        place = onto(arrows, marks, gate, t, p, a, y, from, event, to, place);
-        a += 1;
+impl Lines<'_> {
+    // Writes the arrow on event a from p to q.
+    fn put(&mut self, p: usize, a: usize, q: usize)
+        requires room { HasRoom (arrow p a q ∷ []) self.old }
+        requires p_bound { (p ≤ 65535) × (a ≤ 255) × (q ≤ 65535) }
+        ensures { Adds (arrow p a q ∷ []) self.old self.new }
+    {
+        self.from[self.count] = p as u16;
+        self.event[self.count] = a as u8;
+        self.to[self.count] = q as u16;
+        self.count += 1;
     }
-    place
-}
 
-// A block: its gate, and then its states.
-fn block(
-    m: Model,
-    lent: &[u64],
-    arrows: &[u64],
-    marks: &[u64],
-    gate: usize,
-    t: Profile,
-    from: &mut [u16],
-    event: &mut [u8],
-    to: &mut [u16],
-    n: usize,
-) -> usize
-    requires unrefused { Unrefused eight (asked m lent.now) }
-    requires marks_len { (length marks.now ≡ length arrows.now) × (gate + 1 + length arrows.now ≤ 65535) }
-    requires room { Room n (block_at 8 (machine 8 (asked m lent.now)) m.k (profiles_at arrows.now marks.now) gate (profile t))
-        (arrow_memory from.old event.old to.old) }
-    ensures { Puts n (block_at 8 (machine 8 (asked m lent.now)) m.k
-        (profiles_at arrows.now marks.now) gate (profile t))
-        (arrow_memory from.old event.old to.old)
-        (arrow_memory from.new event.new to.new) result }
-{
-    let mut place = leads_on(
-        m,
-        lent,
-        arrows,
-        marks,
-        gate,
-        t,
-        gate,
-        Before::Nothing,
-        from,
-        event,
-        to,
-        n,
-    );
-    let mut i = 0;
-    while i < arrows.len() {
-        let x = Profile {
-            arrows: arrows[i],
-            marks: marks[i],
-        };
-        let p = gate + 1 + i;
-        place = leads_on(
-            m,
-            lent,
-            arrows,
-            marks,
-            gate,
-            t,
-            p,
-            Before::Word(x),
-            from,
-            event,
-            to,
-            place,
-        );
-        i += 1;
+    // From p on event a onto the profile y in a block: to its gate too, where y is its profile, and to the state of y.
+    fn onto(&mut self, profiles: &Profiles, block: Block, p: usize, a: usize, y: Profile)
+        requires gate_bound { (block.gate + 1 + length profiles.now.arrows.now ≤ 65535) × (p ≤ 65535) × (a ≤ 255) }
+        requires room { HasRoom (onto_lines profiles.now block p a y) self.old }
+        ensures { Adds (onto_lines profiles.now block p a y) self.old self.new }
+    {
+        if y == block.profile {
+            self.put(p, a, block.gate);
+        }
+        self.put(p, a, block.gate + 1 + profiles.place(y));
     }
-    place
-}
 
-// The blocks of the profiles that have one, the first with its gate at first.
-pub fn blocks(
-    m: Model,
-    lent: &[u64],
-    arrows: &[u64],
-    marks: &[u64],
-    shown: &[u8],
-    first: usize,
-    from: &mut [u16],
-    event: &mut [u8],
-    to: &mut [u16],
-    n: usize,
-) -> usize
-    requires unrefused { Unrefused eight (asked m lent.now) }
-    requires marks_len { (length marks.now ≡ length arrows.now) × (length shown.now ≤ length arrows.now)
-        × (first + length (keep_by shown.now (profiles_at arrows.now marks.now)) * (length arrows.now + 1) ≤ 65535) }
-    requires room { Room n (blocks_from 8 (machine 8 (asked m lent.now)) m.k (profiles_at arrows.now marks.now) first
-        (keep_by shown.now (profiles_at arrows.now marks.now)))
-        (arrow_memory from.old event.old to.old) }
-    ensures { Puts n (blocks_from 8 (machine 8 (asked m lent.now)) m.k
-        (profiles_at arrows.now marks.now) first
-        (keep_by shown.now (profiles_at arrows.now marks.now)))
-        (arrow_memory from.old event.old to.old)
-        (arrow_memory from.new event.new to.new) result }
-{
-    let mut place = n;
-    let mut gate = first;
-    let mut j = 0;
-    while j < shown.len() {
-        if shown[j] == 1 {
-            let t = Profile {
-                arrows: arrows[j],
-                marks: marks[j],
-            };
-            place = block(m, lent, arrows, marks, gate, t, from, event, to, place);
-            gate += arrows.len() + 1;
-            j += 1;
-        } else {
-            j += 1;
+    // In a block from p, where what was read has the profile x: on each event onto the next.
+    fn leads_on(&mut self, tables: &Tables, block: Block, p: usize, x: Option<Profile>)
+        requires gate_bound { (block.gate + 1 + length tables.now.profiles.arrows.now ≤ 65535) × (p ≤ 65535) }
+        requires room { HasRoom (leads_lines tables.now block p x) self.old }
+        ensures { Adds (leads_lines tables.now block p x) self.old self.new }
+    {
+        for a in 0..tables.asked.model.k {
+            let y = next_on(&tables.asked, x, a);
+            self.onto(&tables.profiles, block, p, a, y);
         }
     }
-    place
-}
 
-// From set number i on event a, whose profile stands at e: into the block of each profile that rejects with the set. A profile that has a
-// block is its own square, so it is not squared here.
-fn into_blocks(
-    arrows: &[u64],
-    marks: &[u64],
-    shown: &[u8],
-    set: u8,
-    i: usize,
-    a: usize,
-    e: usize,
-    first: usize,
-    from: &mut [u16],
-    event: &mut [u8],
-    to: &mut [u16],
-    n: usize,
-) -> usize
-    requires marks_len { (length marks.now ≡ length arrows.now) × (length shown.now ≤ length arrows.now) × (e ≤ length arrows.now)
-        × (i ≤ 65535) × (a ≤ 255)
-        × (first + length (keep_by shown.now (profiles_at arrows.now marks.now)) * (length arrows.now + 1) ≤ 65535) }
-    requires marks_value { every_of (is_idempotent 8) (keep_by shown.now (profiles_at arrows.now marks.now)) ≡ true }
-    requires room { Room n (arrows_into_blocks 8 (profiles_at arrows.now marks.now) set i a e first
-        (keep_by shown.now (profiles_at arrows.now marks.now)))
-        (arrow_memory from.old event.old to.old) }
-    ensures { Puts n (arrows_into_blocks 8 (profiles_at arrows.now marks.now) set i a e first
-        (keep_by shown.now (profiles_at arrows.now marks.now)))
-        (arrow_memory from.old event.old to.old)
-        (arrow_memory from.new event.new to.new) result }
-{
-    let mut place = n;
-    let mut gate = first;
-    let mut j = 0;
-    while j < shown.len() {
-        if shown[j] == 1 {
-            let t = Profile {
-                arrows: arrows[j],
-                marks: marks[j],
-            };
-            if stays_unmarked(set, t) {
-                place = put(from, event, to, place, i, a, gate + 1 + e);
-                gate += arrows.len() + 1;
-                j += 1;
-            } else {
-                gate += arrows.len() + 1;
-                j += 1;
+    // A block: its gate, and then its states.
+    fn block(&mut self, tables: &Tables, block: Block)
+        requires gate_bound { block.gate + 1 + length tables.now.profiles.arrows.now ≤ 65535 }
+        requires room { HasRoom (block_lines tables.now block) self.old }
+        ensures { Adds (block_lines tables.now block) self.old self.new }
+    {
+        self.leads_on(tables, block, block.gate, None);
+        for i in 0..tables.profiles.len() {
+            let p = block.gate + 1 + i;
+            self.leads_on(tables, block, p, Some(tables.profiles.at(i)));
+        }
+    }
+
+    // The blocks of the profiles that have one, behind the sets.
+    pub fn blocks(&mut self, tables: &Tables, shown: &[u8])
+        requires shows { Shows tables.now shown.now }
+        requires room { HasRoom (blocks_lines tables.now shown.now) self.old }
+        ensures { Adds (blocks_lines tables.now shown.now) self.old self.new }
+    {
+        let mut gate = tables.masks.len();
+        for (j, b) in shown.iter().enumerate() {
+            if *b != 1 {
+                continue;
             }
-        } else {
-            j += 1;
+            let profile = tables.profiles.at(j);
+            self.block(tables, Block { gate, profile });
+            gate += tables.profiles.len() + 1;
         }
     }
-    place
-}
 
-// From set number i on each event: to the next set, and into the blocks.
-fn from_set(
-    m: Model,
-    lent: &[u64],
-    masks: &[u8],
-    arrows: &[u64],
-    marks: &[u64],
-    shown: &[u8],
-    set: u8,
-    i: usize,
-    from: &mut [u16],
-    event: &mut [u8],
-    to: &mut [u16],
-    n: usize,
-) -> usize
-    requires unrefused { Unrefused eight (asked m lent.now) }
-    requires marks_len { (length marks.now ≡ length arrows.now) × (length shown.now ≤ length arrows.now) × (i ≤ 65535)
-        × (length masks.now + length (keep_by shown.now (profiles_at arrows.now marks.now)) * (length arrows.now + 1) ≤ 65535) }
-    requires marks_value { every_of (is_idempotent 8) (keep_by shown.now (profiles_at arrows.now marks.now)) ≡ true }
-    requires room { Room n (each_below m.k (set_on 8 (machine 8 (asked m lent.now)) m.k masks.now (profiles_at arrows.now marks.now)
-        (keep_by shown.now (profiles_at arrows.now marks.now)) i set))
-        (arrow_memory from.old event.old to.old) }
-    ensures { Puts n (each_below m.k (set_on 8 (machine 8 (asked m lent.now)) m.k masks.now
-        (profiles_at arrows.now marks.now)
-        (keep_by shown.now (profiles_at arrows.now marks.now)) i set))
-        (arrow_memory from.old event.old to.old)
-        (arrow_memory from.new event.new to.new) result }
-{
-    let mut place = n;
-    let mut a = 0;
-    while a < m.k {
-        let next_set = place_of_set(masks, image(set, lent[a]));
-        let behind = put(from, event, to, place, i, a, next_set);
-        let e = place_of_profile(arrows, marks, of_event(lent[a], m.home));
-        place = into_blocks(
-            arrows,
-            marks,
-            shown,
-            set,
-            i,
-            a,
-            e,
-            masks.len(),
-            from,
-            event,
-            to,
-            behind,
-        );
-        a += 1;
+    // From set number i on event a, whose profile stands at e: into the block of each profile that rejects with the set. A profile that
+    // has a block is its own square, so it is not squared here.
+    fn into_blocks(&mut self, tables: &Tables, shown: &[u8], set: u8, i: usize, a: usize, e: usize)
+        requires shows { Shows tables.now shown.now }
+        requires i_bound { (i ≤ 65535) × (a ≤ 255) × (e ≤ length tables.now.profiles.arrows.now) }
+        requires room { HasRoom (into_lines tables.now shown.now set i a e) self.old }
+        ensures { Adds (into_lines tables.now shown.now set i a e) self.old self.new }
+    {
+        let mut gate = tables.masks.len();
+        for (j, b) in shown.iter().enumerate() {
+            if *b != 1 {
+                continue;
+            }
+            if stays_unmarked(set, tables.profiles.at(j)) {
+                self.put(i, a, gate + 1 + e);
+            }
+            gate += tables.profiles.len() + 1;
+        }
     }
-    place
-}
 
-// The sets, one behind the other.
-pub fn sets(
-    m: Model,
-    lent: &[u64],
-    masks: &[u8],
-    arrows: &[u64],
-    marks: &[u64],
-    shown: &[u8],
-    from: &mut [u16],
-    event: &mut [u8],
-    to: &mut [u16],
-    n: usize,
-) -> usize
-    requires unrefused { Unrefused eight (asked m lent.now) }
-    requires marks_len { (length marks.now ≡ length arrows.now) × (length shown.now ≤ length arrows.now)
-        × (length masks.now + length (keep_by shown.now (profiles_at arrows.now marks.now)) * (length arrows.now + 1) ≤ 65535) }
-    requires marks_value { every_of (is_idempotent 8) (keep_by shown.now (profiles_at arrows.now marks.now)) ≡ true }
-    requires room { Room n (sets_from 8 (machine 8 (asked m lent.now)) m.k masks.now (profiles_at arrows.now marks.now)
-        (keep_by shown.now (profiles_at arrows.now marks.now)) 0 masks.now)
-        (arrow_memory from.old event.old to.old) }
-    ensures { Puts n (sets_from 8 (machine 8 (asked m lent.now)) m.k masks.now
-        (profiles_at arrows.now marks.now)
-        (keep_by shown.now (profiles_at arrows.now marks.now)) 0 masks.now)
-        (arrow_memory from.old event.old to.old)
-        (arrow_memory from.new event.new to.new) result }
-{
-    let mut place = n;
-    let mut i = 0;
-    while i < masks.len() {
-        place = from_set(
-            m, lent, masks, arrows, marks, shown, masks[i], i, from, event, to, place,
-        );
-        i += 1;
+    // From set number i on each event: to the next set, and into the blocks.
+    fn from_set(&mut self, tables: &Tables, shown: &[u8], set: u8, i: usize)
+        requires shows { Shows tables.now shown.now }
+        requires i_bound { i ≤ 65535 }
+        requires room { HasRoom (set_lines tables.now shown.now set i) self.old }
+        ensures { Adds (set_lines tables.now shown.now set i) self.old self.new }
+    {
+        let m = tables.asked.model;
+        for a in 0..m.k {
+            let arrows = tables.asked.arrows[a];
+            self.put(i, a, place_of_set(tables.masks, image(set, arrows)));
+            let e = tables.profiles.place(of_event(arrows, m.home));
+            self.into_blocks(tables, shown, set, i, a, e);
+        }
     }
-    place
+
+    // The sets, one behind the other.
+    pub fn sets(&mut self, tables: &Tables, shown: &[u8])
+        requires shows { Shows tables.now shown.now }
+        requires room { HasRoom (sets_lines tables.now shown.now) self.old }
+        ensures { Adds (sets_lines tables.now shown.now) self.old self.new }
+    {
+        for (i, set) in tables.masks.iter().enumerate() {
+            self.from_set(tables, shown, *set, i);
+        }
+    }
 }

@@ -1,39 +1,58 @@
 // How many states and arrows the opposite has, counted without writing.
-ghost use Rattle.std.specs.Prelude.{◌≤◌, ◌≡◌, false, length};
+ghost use Rattle.std.specs.Prelude.{◌+◌, ◌*◌, ◌^◌, ◌<◌, ◌≤◌, ◌≡◌, ◌&&◌, leb, length};
 ghost use Rattle.laws.specs.Bits.{counted, count as count_of};
-ghost use Rattle.laws.specs.Model.{eight, machine};
-ghost use Rattle.laws.specs.Refusals.{Unrefused};
 ghost use Rattle.laws.specs.Profiles.{same_profile, next_profile};
 ghost use Rattle.laws.specs.Opposite.{rejects_non_empty, second_count};
-ghost use Rattle.model.specs.Asked.{asked};
+ghost use Rattle.model.specs.Lent.{machine_of};
 ghost use Rattle.profile.specs.Values.{profile, before as before_of};
-ghost use Rattle.opposite.specs.Tables.{profiles_at, remains_unmarked};
+ghost use Rattle.opposite.specs.Tables.{remains_unmarked};
+ghost use Rattle.opposite.specs.Lent.{profiles_of};
 ghost use Rattle.opposite.specs.Drawing.{Counted};
 
-use model::Model;
-use profile::{Before, Profile, image, is_same, join, marks_round, next, of_event};
+use crate::tables::Tables;
+use model::Checked;
+use profile::{Profile, image, join, marks_round, next, of_event};
 
-// Whether the opposite fits, and if so, how many blocks, states and arrows it has.
+// How many blocks, states and arrows the opposite has.
 #[derive(Clone, Copy)]
 pub struct Counts {
-    pub fits: bool,
     pub blocks: usize,
     pub states: usize,
     pub arrows: usize,
 }
 
+impl Counts {
+    // One block more, of so many states: from each of them, and from each set that the block's profile rejects with, an arrow on k events.
+    fn add_block(&mut self, k: usize, pairs: usize, size: usize)
+        requires { (self.old.blocks + 1 ≤ 2048) × (self.old.states + size < 2 ^ 32) × (self.old.arrows + (k * pairs + size * k) < 2 ^ 32) }
+        ensures { self.new ≡ record {
+          blocks = self.old.blocks + 1;
+          states = self.old.states + size;
+          arrows = self.old.arrows + (k * pairs + size * k);
+        } }
+    {
+        self.blocks += 1;
+        self.states += size;
+        self.arrows += k * pairs + size * k;
+    }
+
+    // There is room for so many states, and for so many arrows.
+    fn fit(&self, state_room: usize, arrow_room: usize) -> bool
+        ensures { result ≡ (leb self.now.states state_room && leb self.now.arrows arrow_room) }
+    {
+        self.states <= state_room && self.arrows <= arrow_room
+    }
+}
+
 // The set is not empty, the profile leads it exactly to itself, and no state of it back to itself with a mark.
+#[tactic(auto, unfolding(crate::specs::Tables::remains_unmarked))]
 pub fn stays_unmarked(set: u8, t: Profile) -> bool
     ensures { result ≡ remains_unmarked 8 set (profile t) }
 {
     if set == 0 {
         return false;
     }
-    let led = image(set, t.arrows);
-    if led != set {
-        return false;
-    }
-    !marks_round(set, t)
+    image(set, t.arrows) == set && !marks_round(set, t)
 }
 
 // With how many sets other than the empty one the profile rejects. It is squared once, for all sets.
@@ -41,124 +60,74 @@ pub fn pairs_of(masks: &[u8], t: Profile) -> usize
     ensures { result ≡ count_of (λ P. rejects_non_empty 8 P (profile t)) masks.now }
 {
     let square = join(t, t);
-    if !is_same(square, t) {
+    if square != t {
         return 0;
     }
-    let mut pairs = 0;
-    let mut i = 0;
-    while i < masks.len() {
-        if stays_unmarked(masks[i], t) {
-            pairs += 1;
-        }
-        i += 1;
-    }
-    pairs
+    masks.iter().filter(|set| stays_unmarked(**set, t)).count()
+}
+
+// The profile of what was read, if anything was, and then event a.
+pub fn next_on(asked: &Checked, x: Option<Profile>, a: usize) -> Profile
+    requires { a < asked.now.model.k }
+    ensures { profile result ≡ next_profile 8 (machine_of asked.now) (before_of x) a }
+{
+    next(x, of_event(asked.arrows[a], asked.model.home))
 }
 
 // On how many events what was read and then the event has the profile t.
-fn returns_of(m: Model, lent: &[u64], x: Before, t: Profile) -> usize
-    requires { Unrefused eight (asked m lent.now) }
-    ensures { result ≡ count_of (λ a. same_profile (next_profile 8 (machine 8 (asked m lent.now)) (before_of x) a) (profile t))
-        (counted 0 m.k) }
+#[tactic(auto, unfolding(laws::specs::Profiles::same_profile))]
+fn returns_of(asked: &Checked, x: Option<Profile>, t: Profile) -> usize
+    ensures { result ≡ count_of (λ a. same_profile (next_profile 8 (machine_of asked.now) (before_of x) a) (profile t))
+        (counted 0 asked.now.model.k) }
 {
     let mut found = 0;
-    let mut a = 0;
-    while a < m.k {
-        let y = next(x, of_event(lent[a], m.home));
-        if is_same(y, t) {
+    for a in 0..asked.model.k {
+        if next_on(asked, x, a) == t {
             found += 1;
         }
-        a += 1;
     }
     found
 }
 
 // How many second arrows the block of t has.
-fn seconds_of(m: Model, lent: &[u64], arrows: &[u64], marks: &[u64], t: Profile) -> usize
-    requires unrefused { Unrefused eight (asked m lent.now) }
-    requires marks_len { (length marks.now ≡ length arrows.now) × (length arrows.now ≤ 2048) }
-    ensures { result ≡ second_count 8 (machine 8 (asked m lent.now)) m.k
-        (profiles_at arrows.now marks.now) (profile t) }
+fn seconds_of(tables: &Tables, t: Profile) -> usize
+    requires { length tables.now.profiles.arrows.now ≤ 2048 }
+    ensures { result ≡ second_count 8 (machine_of tables.now.asked) tables.now.asked.model.k
+        (profiles_of tables.now.profiles) (profile t) }
 {
-    let mut found = returns_of(m, lent, Before::Nothing, t);
-    let mut i = 0;
-    while i < arrows.len() {
-        let x = Profile {
-            arrows: arrows[i],
-            marks: marks[i],
-        };
-        found += returns_of(m, lent, Before::Word(x), t);
-        i += 1;
+    let mut found = returns_of(&tables.asked, None, t);
+    for i in 0..tables.profiles.len() {
+        found += returns_of(&tables.asked, Some(tables.profiles.at(i)), t);
     }
     found
 }
 
-// The answer where there are more states or arrows than there is room.
-fn no_fit() -> Counts
-    ensures { result.fits ≡ false }
-{
-    Counts {
-        fits: false,
-        blocks: 0,
-        states: 0,
-        arrows: 0,
-    }
-}
-
-// Goes through the profiles and adds up what their blocks have, as long as that fits. So no more second arrows are looked for than there is
-// room for arrows.
-pub fn count(
-    m: Model,
-    lent: &[u64],
-    masks: &[u8],
-    arrows: &[u64],
-    marks: &[u64],
-    state_room: usize,
-    arrow_room: usize,
-) -> Counts
-    requires unrefused { Unrefused eight (asked m lent.now) }
-    requires marks_len { (length marks.now ≡ length arrows.now) × (length arrows.now ≤ 2048) × (length masks.now ≤ 256) }
+// Goes through the profiles and adds up what their blocks have, as long as that fits: nothing, where there are more states or arrows than
+// there is room for. So no more second arrows are looked for than there is room for arrows.
+pub fn count(tables: &Tables, state_room: usize, arrow_room: usize) -> Option<Counts>
+    requires few { (length tables.now.profiles.arrows.now ≤ 2048) × (length tables.now.masks.now ≤ 256) }
     requires state_room_bound { (state_room ≤ 65535) × (arrow_room ≤ 65535) }
-    ensures { Counted 8 (machine 8 (asked m lent.now)) m.k masks.now
-        (profiles_at arrows.now marks.now) state_room arrow_room result }
+    ensures { Counted 8 (machine_of tables.now.asked) tables.now.asked.model.k tables.now.masks.now
+        (profiles_of tables.now.profiles) state_room arrow_room result }
 {
-    let size = arrows.len() + 1;
-    let mut blocks = 0;
-    let mut states = masks.len();
-    let mut lines = masks.len() * m.k;
-    let mut j = 0;
-    while j < arrows.len() {
-        let t = Profile {
-            arrows: arrows[j],
-            marks: marks[j],
-        };
-        let pairs = pairs_of(masks, t);
+    let k = tables.asked.model.k;
+    let size = tables.profiles.len() + 1;
+    let mut counts = Counts {
+        blocks: 0,
+        states: tables.masks.len(),
+        arrows: tables.masks.len() * k,
+    };
+    for j in 0..tables.profiles.len() {
+        let t = tables.profiles.at(j);
+        let pairs = pairs_of(tables.masks, t);
         if pairs == 0 {
-            j += 1;
-        } else {
-            blocks += 1;
-            states += size;
-            lines += m.k * pairs + size * m.k;
-            if state_room < states {
-                return no_fit();
-            }
-            if arrow_room < lines {
-                return no_fit();
-            }
-            lines += seconds_of(m, lent, arrows, marks, t);
-            j += 1;
+            continue;
         }
+        counts.add_block(k, pairs, size);
+        if !counts.fit(state_room, arrow_room) {
+            return None;
+        }
+        counts.arrows += seconds_of(tables, t);
     }
-    if state_room < states {
-        return no_fit();
-    }
-    if lines > arrow_room {
-        return no_fit();
-    }
-    Counts {
-        fits: true,
-        blocks,
-        states,
-        arrows: lines,
-    }
+    counts.fit(state_room, arrow_room).then_some(counts)
 }

@@ -1,27 +1,36 @@
 // The opposite of complete tables: counted first, and written only where it fits.
-ghost use Rattle.std.specs.Prelude.{ℕ, ◌≤◌, ◌≡◌, cond, List, length, eqb};
-ghost use Rattle.laws.specs.Model.{eight, machine};
-ghost use Rattle.laws.specs.Refusals.{Unrefused};
-ghost use Rattle.laws.specs.Answers.{room_for_arrows};
-ghost use Rattle.model.specs.Asked.{asked};
-ghost use Rattle.opposite.specs.Tables.{profiles_at};
-ghost use Rattle.opposite.specs.Memory.{opposite_memory};
+ghost use Rattle.std.specs.Prelude.{◌≤◌, ◌≡◌, cond, length, eqb};
+ghost use Rattle.laws.specs.Answers.{room_for_states, room_for_arrows};
+ghost use Rattle.model.specs.Lent.{machine_of};
+ghost use Rattle.opposite.specs.Lent.{opposite_lent, SameOpposite, profiles_of};
 ghost use Rattle.opposite.specs.Drawing.{Fitting, Drawn, Draws};
 
-use crate::arrows::{blocks, sets};
+use crate::arrows::Lines;
 use crate::counts::{Counts, count};
 use crate::flags::{show, write};
-use model::{Model, least};
+use crate::memory::OppositeMemory;
+use crate::tables::Tables;
 
 // At most so many states, and so many arrows.
 const LIMIT: usize = 65535;
 
-// The room for arrows: the least of their slices and the limit.
-fn arrow_room(from: &[u16], event: &[u8], to: &[u16]) -> usize
-    ensures { (flags : List ℕ)
-        → result ≡ room_for_arrows (opposite_memory from.now event.now to.now flags) }
+// The room for states: the length of the slice of flags, or the limit.
+#[tactic(auto, unfolding(laws::specs::Answers::room_for_states))]
+fn state_room(out: &OppositeMemory) -> usize
+    ensures { result ≡ room_for_states (opposite_lent out.now) }
 {
-    least(least(from.len(), least(event.len(), to.len())), LIMIT)
+    out.flags.len().min(LIMIT)
+}
+
+// The room for arrows: the least of their slices and the limit.
+#[tactic(auto, unfolding(laws::specs::Answers::room_for_arrows))]
+fn arrow_room(out: &OppositeMemory) -> usize
+    ensures { result ≡ room_for_arrows (opposite_lent out.now) }
+{
+    out.from
+        .len()
+        .min(out.event.len().min(out.to.len()))
+        .min(LIMIT)
 }
 
 // Beside how many profiles it is noted whether they have a block: without any block there may be no room for that, and no need.
@@ -32,103 +41,37 @@ fn shown_profiles(profiles: usize, blocks: usize) -> usize
 }
 
 // Writes the arrows and the flags of an opposite that fits. Until the flags are written, their slice holds which profiles have a block.
-fn write_all(
-    m: Model,
-    lent: &[u64],
-    masks: &[u8],
-    arrows: &[u64],
-    marks: &[u64],
-    count: usize,
-    from: &mut [u16],
-    event: &mut [u8],
-    to: &mut [u16],
-    flags: &mut [u8],
-)
-    requires unrefused { Unrefused eight (asked m lent.now) }
-    requires marks_len { length marks.now ≡ length arrows.now }
-    requires fitting { Fitting 8 (machine 8 (asked m lent.now)) m.k masks.now (profiles_at arrows.now marks.now)
-        (opposite_memory from.old event.old to.old flags.old) count }
-    ensures { Drawn 8 (machine 8 (asked m lent.now)) m.k masks.now
-        (profiles_at arrows.now marks.now)
-        (opposite_memory from.old event.old to.old flags.old)
-        (opposite_memory from.new event.new to.new flags.new) }
+fn write_all(tables: &Tables, count: usize, out: &mut OppositeMemory)
+    requires fitting { Fitting 8 (machine_of tables.now.asked) tables.now.asked.model.k tables.now.masks.now (profiles_of tables.now.profiles)
+        (opposite_lent out.old) count }
+    ensures drawn { Drawn 8 (machine_of tables.now.asked) tables.now.asked.model.k tables.now.masks.now (profiles_of tables.now.profiles)
+        (opposite_lent out.old) (opposite_lent out.new) }
+    ensures same { SameOpposite out.new out.old }
 {
-    let profiles = shown_profiles(arrows.len(), count);
-    show(
-        masks,
-        &arrows[..profiles],
-        &marks[..profiles],
-        &mut flags[..profiles],
-    );
-    let behind = sets(
-        m,
-        lent,
-        masks,
-        arrows,
-        marks,
-        &flags[..profiles],
-        from,
-        event,
-        to,
-        0,
-    );
-    blocks(
-        m,
-        lent,
-        arrows,
-        marks,
-        &flags[..profiles],
-        masks.len(),
-        from,
-        event,
-        to,
-        behind,
-    );
-    write(masks, arrows.len(), count, flags);
+    let profiles = shown_profiles(tables.profiles.len(), count);
+    let flags = &mut *out.flags;
+    show(tables.masks, &tables.profiles, &mut flags[..profiles]);
+    let shown = &flags[..profiles];
+    let mut lines = Lines {
+        from: out.from,
+        event: out.event,
+        to: out.to,
+        count: 0,
+    };
+    lines.sets(tables, shown);
+    lines.blocks(tables, shown);
+    write(tables.masks, tables.profiles.len(), count, flags);
 }
 
 // Counts, and writes where it fits.
-pub fn draw(
-    m: Model,
-    lent: &[u64],
-    masks: &[u8],
-    arrows: &[u64],
-    marks: &[u64],
-    from: &mut [u16],
-    event: &mut [u8],
-    to: &mut [u16],
-    flags: &mut [u8],
-) -> Counts
-    requires unrefused { Unrefused eight (asked m lent.now) }
-    requires marks_len { (length marks.now ≡ length arrows.now) × (length arrows.now ≤ 2048) × (length masks.now ≤ 256) }
-    ensures { Draws 8 (machine 8 (asked m lent.now)) m.k masks.now
-        (profiles_at arrows.now marks.now)
-        (opposite_memory from.old event.old to.old flags.old)
-        (opposite_memory from.new event.new to.new flags.new) result }
+#[tactic(auto, unfolding(laws::specs::Answers::room_for_states, laws::specs::Answers::room_for_arrows))]
+pub fn draw(tables: &Tables, out: &mut OppositeMemory) -> Option<Counts>
+    requires few { (length tables.now.profiles.arrows.now ≤ 2048) × (length tables.now.masks.now ≤ 256) }
+    ensures draws { Draws 8 (machine_of tables.now.asked) tables.now.asked.model.k tables.now.masks.now (profiles_of tables.now.profiles)
+        (opposite_lent out.old) (opposite_lent out.new) result }
+    ensures same { SameOpposite out.new out.old }
 {
-    let states = least(flags.len(), LIMIT);
-    let counted = count(
-        m,
-        lent,
-        masks,
-        arrows,
-        marks,
-        states,
-        arrow_room(from, event, to),
-    );
-    if counted.fits {
-        write_all(
-            m,
-            lent,
-            masks,
-            arrows,
-            marks,
-            counted.blocks,
-            from,
-            event,
-            to,
-            flags,
-        );
-    }
-    counted
+    let counted = count(tables, state_room(out), arrow_room(out))?;
+    write_all(tables, counted.blocks, out);
+    Some(counted)
 }

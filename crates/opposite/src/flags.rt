@@ -1,33 +1,22 @@
 // A byte for each profile, whether it has a block; and the opposite's flags.
-ghost use Rattle.std.specs.Prelude.{◌+◌, ◌*◌, ◌≤◌, ◌≡◌, cond, ◌∷◌, map, length, replicate};
+ghost use Rattle.std.specs.Prelude.{◌+◌, ◌*◌, ◌≤◌, ◌≡◌, cond, ◌∷◌, map, length, take, replicate};
 ghost use Rattle.laws.specs.Answers.{over};
-ghost use Rattle.opposite.specs.Tables.{profiles_at};
 ghost use Rattle.laws.specs.Opposite.{has_block};
 ghost use Rattle.opposite.specs.Memory.{put_at};
+ghost use Rattle.opposite.specs.Lent.{profiles_of};
 ghost use Rattle.opposite.specs.Drawing.{flags_of};
 
 use crate::counts::pairs_of;
-use profile::Profile;
+use crate::tables::Profiles;
 
-// 1 for each profile that has a block, 0 for the others.
-pub fn show(masks: &[u8], arrows: &[u64], marks: &[u64], shown: &mut [u8])
-    requires { (length marks.now ≡ length arrows.now) × (length shown.old ≡ length arrows.now) }
+// For each of the first profiles, as many as there are bytes: 1 where it has a block, 0 where not.
+pub fn show(masks: &[u8], profiles: &Profiles, shown: &mut [u8])
+    requires { length shown.old ≤ length profiles.now.arrows.now }
     ensures { shown.new
-        ≡ map (λ t. cond (has_block 8 masks.now t) 1 0) (profiles_at arrows.now marks.now) }
+        ≡ map (λ t. cond (has_block 8 masks.now t) 1 0) (take (length shown.old) (profiles_of profiles.now)) }
 {
-    let mut j = 0;
-    while j < arrows.len() {
-        let t = Profile {
-            arrows: arrows[j],
-            marks: marks[j],
-        };
-        if pairs_of(masks, t) == 0 {
-            shown[j] = 0;
-            j += 1;
-        } else {
-            shown[j] = 1;
-            j += 1;
-        }
+    for (j, b) in shown.iter_mut().enumerate() {
+        *b = u8::from(0 < pairs_of(masks, profiles.at(j)));
     }
 }
 
@@ -37,11 +26,7 @@ fn block_flags(profiles: usize, flags: &mut [u8], n: usize)
     ensures { flags.new ≡ put_at n (1 ∷ replicate profiles 0) flags.old }
 {
     flags[n] = 1;
-    let mut i = 0;
-    while i < profiles {
-        flags[n + 1 + i] = 0;
-        i += 1;
-    }
+    flags[n + 1..n + 1 + profiles].fill(0);
 }
 
 // The flags of the sets, 1 for the empty one, and then of the blocks.
@@ -50,12 +35,8 @@ pub fn write(masks: &[u8], profiles: usize, blocks: usize, flags: &mut [u8])
     ensures { flags.new ≡ over (flags_of masks.now profiles blocks) flags.old }
 {
     set_flags(masks, flags);
-    let mut n = masks.len();
-    let mut b = 0;
-    while b < blocks {
-        block_flags(profiles, flags, n);
-        n += profiles + 1;
-        b += 1;
+    for b in 0..blocks {
+        block_flags(profiles, flags, masks.len() + b * (profiles + 1));
     }
 }
 
@@ -64,14 +45,7 @@ fn set_flags(masks: &[u8], flags: &mut [u8])
     requires { length masks.now ≤ length flags.old }
     ensures { flags.new ≡ over (flags_of masks.now 0 0) flags.old }
 {
-    let mut i = 0;
-    while i < masks.len() {
-        if masks[i] == 0 {
-            flags[i] = 1;
-            i += 1;
-        } else {
-            flags[i] = 0;
-            i += 1;
-        }
+    for (i, mask) in masks.iter().enumerate() {
+        flags[i] = u8::from(*mask == 0);
     }
 }

@@ -6,50 +6,50 @@ mod arrows;
 mod counts;
 mod draw;
 mod flags;
+mod memory;
 mod tables;
 
-ghost use Rattle.std.specs.Prelude.{◌≡◌};
-ghost use Rattle.closing.specs.Memory.{set_memory, profile_memory};
-ghost use Rattle.opposite.specs.Memory.{opposite_memory};
-ghost use Rattle.opposite.specs.Drawing.{answer_of};
+ghost use Rattle.std.specs.Prelude.{◌≤◌, ◌≡◌, length, take};
+ghost use Rattle.closing.specs.Lent.{sets_lent, profiles_lent, SameSets, SameProfiles};
+ghost use Rattle.opposite.specs.Lent.{opposite_lent, SameOpposite};
 ghost use Rattle.opposite.specs.Opposites.{WritesOpposite};
 
-use closing::close;
-use counts::Counts;
-use model::Model;
+use closing::{Complete, ProfileMemory, Refused, SetMemory, close};
+use draw::draw;
+pub use memory::OppositeMemory;
+use model::{Checked, Model, Refusal};
+use tables::{Profiles, Tables};
 
-// How many sets and profiles stand in the lent slices; with them how many states and arrows the opposite has, which stand in theirs, or the
-// number of the refusal.
+// How many sets and profiles stand in the lent slices, and how many states and arrows the opposite has, which stand in theirs.
 #[derive(Clone, Copy)]
-pub enum Answer {
-    Written {
-        sets: usize,
-        profiles: usize,
-        states: usize,
-        arrows: usize,
-    },
-    Refused {
-        number: u8,
-        sets: usize,
-        profiles: usize,
-    },
+pub struct Written {
+    pub sets: usize,
+    pub profiles: usize,
+    pub states: usize,
+    pub arrows: usize,
 }
 
-// The answer after closing without refusal.
-fn answered(drawn: Counts, sets: usize, profiles: usize) -> Answer
-    ensures { result ≡ answer_of drawn sets profiles }
+// The tables that closing left in the first places of the lent slices.
+fn tables_of<'a>(
+    asked: Checked<'a>,
+    closed: Complete,
+    sets: &'a SetMemory,
+    profiles: &'a ProfileMemory,
+) -> Tables<'a>
+    requires sets { closed.sets ≤ length sets.now.masks.now }
+    requires profiles { (closed.profiles ≤ length profiles.now.arrows.now) × (closed.profiles ≤ length profiles.now.marks.now) }
+    ensures asked { result.asked ≡ asked.entry }
+    ensures masks { result.masks.now ≡ take closed.sets sets.now.masks.now }
+    ensures arrows { result.profiles.arrows.now ≡ take closed.profiles profiles.now.arrows.now }
+    ensures marks { result.profiles.marks.now ≡ take closed.profiles profiles.now.marks.now }
 {
-    if drawn.fits {
-        return Answer::Written {
-            sets,
-            profiles,
-            states: drawn.states,
-            arrows: drawn.arrows,
-        };
-    }
-    Answer::Refused {
-        number: 7,
-        sets,
+    let masks = &sets.masks[..closed.sets];
+    let arrows = &profiles.arrows[..closed.profiles];
+    let marks = &profiles.marks[..closed.profiles];
+    let profiles = Profiles { arrows, marks };
+    Tables {
+        asked,
+        masks,
         profiles,
     }
 }
@@ -59,59 +59,31 @@ fn answered(drawn: Counts, sets: usize, profiles: usize) -> Answer
 pub fn opposite(
     m: Model,
     arrows: &[u64],
-    set_masks: &mut [u8],
-    set_from: &mut [u16],
-    set_event: &mut [u8],
-    profile_arrows: &mut [u64],
-    profile_marks: &mut [u64],
-    profile_from: &mut [u16],
-    profile_event: &mut [u8],
-    from: &mut [u16],
-    event: &mut [u8],
-    to: &mut [u16],
-    flags: &mut [u8],
-) -> Answer
-    ensures { WritesOpposite m arrows.now
-        (set_memory set_masks.old set_from.old set_event.old)
-        (set_memory set_masks.new set_from.new set_event.new)
-        (profile_memory profile_arrows.old profile_marks.old
-        profile_from.old profile_event.old)
-        (profile_memory profile_arrows.new profile_marks.new
-        profile_from.new profile_event.new)
-        (opposite_memory from.old event.old to.old flags.old)
-        (opposite_memory from.new event.new to.new flags.new)
+    sets: &mut SetMemory,
+    profiles: &mut ProfileMemory,
+    out: &mut OppositeMemory,
+) -> Result<Written, Refused>
+    ensures opposite { WritesOpposite m arrows.now
+        (sets_lent sets.old) (sets_lent sets.new)
+        (profiles_lent profiles.old) (profiles_lent profiles.new)
+        (opposite_lent out.old) (opposite_lent out.new)
         result }
+    ensures same_sets { SameSets sets.new sets.old }
+    ensures same_profiles { SameProfiles profiles.new profiles.old }
+    ensures same_opposite { SameOpposite out.new out.old }
 {
-    let closed = close(
-        m,
-        arrows,
-        set_masks,
-        set_from,
-        set_event,
-        profile_arrows,
-        profile_marks,
-        profile_from,
-        profile_event,
-    );
-    let sets = closed.sets;
-    let profiles = closed.profiles;
-    if closed.number != 0 {
-        return Answer::Refused {
-            number: closed.number,
-            sets,
-            profiles,
-        };
-    }
-    let drawn = draw::draw(
-        m,
-        arrows,
-        &set_masks[..sets],
-        &profile_arrows[..profiles],
-        &profile_marks[..profiles],
-        from,
-        event,
-        to,
-        flags,
-    );
-    answered(drawn, sets, profiles)
+    let closed = close(m, arrows, sets, profiles)?;
+    let asked = Checked { model: m, arrows };
+    let tables = tables_of(asked, closed, sets, profiles);
+    let drawn = draw(&tables, out).ok_or(Refused {
+        refusal: Refusal::MoreArrows,
+        sets: closed.sets,
+        profiles: closed.profiles,
+    })?;
+    Ok(Written {
+        sets: closed.sets,
+        profiles: closed.profiles,
+        states: drawn.states,
+        arrows: drawn.arrows,
+    })
 }

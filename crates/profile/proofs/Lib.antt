@@ -1,5 +1,3 @@
--- a loop that fills flags
-pub mod Flags
 -- what an event is and does
 pub mod Lent
 -- what follows from the contracts

@@ -7,7 +7,7 @@ use Rattle.laws.specs.Profiles as paper
 use Rattle.laws.specs.Repeats.{union}
 use Rattle.laws.proofs.Booleans.{one_value}
 use Rattle.profile.specs.Values.{profile, event_value, next_value, plain}
-use Rattle.profile.specs.declared.Before.{Before}
+use Rattle.std.specs.Prelude.{Option}
 use Rattle.profile.specs.declared.Profile.{Profile}
 
 -- a result that is to have a given profile is one only
@@ -26,7 +26,7 @@ one_union s t e f = one_profile _ _ (one_value e f)
 pub one_event : (arrows home : ℕ) {x y : Profile} → profile x ≡ event_value arrows home → profile y ≡ event_value arrows home → x ≡ y
 one_event arrows home e f = one_profile _ _ (one_value e f)
 
-pub one_next : (before : Before) (event : Profile) {x y : Profile} → profile x ≡ next_value before event
+pub one_next : (before : Option Profile) (event : Profile) {x y : Profile} → profile x ≡ next_value before event
     → profile y ≡ next_value before event → x ≡ y
 one_next before event e f = one_profile _ _ (one_value e f)
 

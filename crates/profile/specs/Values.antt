@@ -1,11 +1,9 @@
 -- How the code's values stand for those of document 01: a profile, and the profile of what was read.
-use Rattle.std.specs.Prelude.{ℕ, ◌&&◌}
+use Rattle.std.specs.Prelude.{ℕ, ◌&&◌, Option as Maybe, Some, None}
 use Rattle.std.proofs.Math.Option.{Option, none, some}
 use Rattle.laws.specs.Bits.{bit, cell, grid}
 use Rattle.laws.specs.Profiles as paper
 use Rattle.profile.specs.declared.Profile.{Profile}
-use Rattle.profile.specs.declared.Before.{Before}
-use Rattle.profile.specs.declared.Before.TheVariants.{Nothing, Word}
 
 -- a profile's two numbers
 abbrev pub profile : Profile → paper.Profile
@@ -20,11 +18,11 @@ unfoldable pub event_value : ℕ → ℕ → paper.Profile
 event_value arrows home = record { arrows = arrows; marks = grid 8 (λ p q. cell 8 arrows p q && bit home q) }
 
 -- the profile of what was read so far: none where nothing was
-abbrev pub before : Before → Option paper.Profile
-before Nothing = none
-before (Word t) = some (profile t)
+abbrev pub before : Maybe Profile → Option paper.Profile
+before None = none
+before (Some t) = some (profile t)
 
 -- the profile of what was read with one event more
-abbrev pub next_value : Before → Profile → paper.Profile
-next_value Nothing event = profile event
-next_value (Word t) event = paper.join 8 (profile t) (profile event)
+abbrev pub next_value : Maybe Profile → Profile → paper.Profile
+next_value None event = profile event
+next_value (Some t) event = paper.join 8 (profile t) (profile event)

@@ -1,8 +1,12 @@
-// Bits of numbers, and flags packed into numbers.
-ghost use Rattle.std.specs.Prelude.{◌<◌, ◌≤◌, ◌≡◌, false, cond, get_or};
-ghost use Rattle.laws.specs.Bits.{bit, number_of_bits};
+// Bits of numbers, and a test of a number handed over: its answers packed into a number, and whether it holds of some state.
+ghost use Rattle.std.specs.Prelude.{ℕ, ◌^◌, ◌<◌, ◌≤◌, ◌≡◌, Bool};
+ghost use Rattle.laws.specs.Bits.{bit, number_of_bits, some_below, cell as cell_of};
+ghost use Rattle.profile.specs.Tests.{Answers};
+
+use model::Model;
 
 // Bit i of x.
+#[tactic(auto, unfolding(laws::specs::Bits::bit))]
 pub fn has(x: u64, i: usize) -> bool
     requires { i < 64 }
     ensures { result ≡ bit x i }
@@ -10,23 +14,40 @@ pub fn has(x: u64, i: usize) -> bool
     (x >> i) % 2 == 1
 }
 
-// 1 for true, 0 for false.
-pub fn one(flag: bool) -> u64
-    ensures { result ≡ cond flag 1 0 }
+// The bit for p, q of a number packed by rows.
+#[tactic(auto, unfolding(laws::specs::Bits::cell))]
+pub fn cell(x: u64, p: usize, q: usize) -> bool
+    requires { (p < 8) × (q < 8) }
+    ensures { result ≡ cell_of 8 x p q }
 {
-    if flag { 1 } else { 0 }
+    has(x, Model::STATES * p + q)
 }
 
-// The first n flags as a number, flag i as its bit i.
-pub fn pack(flags: [bool; 64], n: usize) -> u64
-    requires { n ≤ 64 }
-    ensures { result ≡ number_of_bits n (λ i. get_or flags i false) }
+// The number of n bits whose bit i is the test's answer at i.
+#[tactic(auto, unfolding(laws::specs::Bits::number_of_bits))]
+pub fn pack<T: Fn(usize) -> bool>(n: usize, test: T) -> u64
+    requires few { n ≤ 64 }
+    requires callable { (i : ℕ) → i < n → T.pre test i }
+    ensures below { result < 2 ^ n }
+    ensures bits { (f : ℕ → Bool) → Answers (T.post test) n f → result ≡ number_of_bits n f }
 {
     let mut x: u64 = 0;
-    let mut i = n;
-    while 0 < i {
-        i -= 1;
-        x = 2 * x + one(flags[i]);
+    for i in (0..n).rev() {
+        x = 2 * x + u64::from(test(i));
     }
     x
+}
+
+// The test holds of some state.
+#[tactic(auto, unfolding(laws::specs::Bits::some_below), using(laws::proofs::Booleans::some_is_below))]
+pub fn some_state<T: Fn(usize) -> bool>(test: T) -> bool
+    requires { (r : ℕ) → r < 8 → T.pre test r }
+    ensures { (f : ℕ → Bool) → Answers (T.post test) 8 f → result ≡ some_below 8 f }
+{
+    for r in 0..Model::STATES {
+        if test(r) {
+            return true;
+        }
+    }
+    false
 }

@@ -1,12 +1,13 @@
 -- Decimal digits one by one, and the letters of a word one by one.
-use Prim.Native.Nat.{ℕ, zero, suc, ◌+◌, ◌-◌, ◌/◌, ◌%◌, ◌^◌, ◌≤◌, ◌<◌}
+use Prim.Native.Nat.{ℕ, zero, suc, ◌+◌, ◌/◌, ◌%◌, ◌^◌, ◌≤◌, ◌<◌}
 use native.Mathlib.Omega.{arith}
-use native.Mathlib.Nat.{pow-suc, div-lt_iff_lt-mul, sub_self}
+use native.Mathlib.Numerals.{add-one}
+use native.Mathlib.Nat.{pow-suc, div-lt_iff_lt-mul}
 use mathlib.Core.Path.{◌≡◌, sym, ap, ◌∙◌}
 use mathlib.Core.Bool.{cond}
 use mathlib.Core.List.{List, [], ◌∷◌, ◌++◌, append_assoc, append-nil}
-use lib.ListN.{length, get_or, take, drop, length-drop}
-use lib.Seq.{take-suc, get_or-drop}
+use lib.ListN.{length, get_or, take}
+use lib.Seq.{take-suc}
 use lib.Dec.{ltb}
 use borrow.Author.Tests.{lt-ltb, le-ltb}
 use Rattle.laws.specs.Words.{Word}
@@ -46,16 +47,6 @@ unfolding letters
 letters_more [] a = append-nil (space ∷ decimal a)
 letters_more (b ∷ w) a = ap (λ r. (space ∷ decimal b) ++ r) (letters_more w a) ∙ sym (append_assoc (space ∷ decimal b) (letters w) _)
 
--- the letters of a part of the word memory, and the next
-pub letters_next : (memory : List ℕ) (from i : ℕ) → from ≤ i → i < length memory
-    → letters (take (i + 1 - from) (drop from memory)) ≡ letters (take (i - from) (drop from memory)) ++ (space ∷ decimal (get_or memory i 0))
-letters_next memory from i h l =
-    let more : i + 1 - from ≡ suc (i - from) = omega arith in
-    let place : from + (i - from) ≡ i = omega arith in
-    let inside : i - from < length (drop from memory) = simp length-drop (omega arith) in
-    rw (more, take-suc (drop from memory) (i - from) 0 inside, get_or-drop, place)
-    (letters_more (take (i - from) (drop from memory)) (get_or memory i 0))
-
-pub letters_none : (memory : List ℕ) (from : ℕ) → letters (take (from - from) (drop from memory)) ≡ []
-unfolding letters
-letters_none memory from = rw sub_self
+-- the letters before a place, and the next
+pub letters_next : (w : Word) (i : ℕ) → i < length w → letters (take (i + 1) w) ≡ letters (take i w) ++ (space ∷ decimal (get_or w i 0))
+letters_next w i l = rw (add-one, take-suc w i 0) (letters_more (take i w) (get_or w i 0))

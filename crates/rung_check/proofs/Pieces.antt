@@ -8,7 +8,8 @@ use lib.ListN.{length, get_or, take, set, length-append, length-take, take-appen
 use lib.Seq.{take_at, take_all, take-suc, take-length, length-take-le, take-append-le, set_split, append_snoc, drop-length}
 use Rattle.laws.specs.Answers.{over}
 use Rattle.laws.proofs.Over.{over_length, over_again}
-use Rattle.rung_check.specs.Putting.{text_put, Puts, Stands}
+use Rattle.rung_check.specs.declared.text.Text.{Text}
+use Rattle.rung_check.specs.Putting.{text_put, Puts, Within, Adds, Stands}
 
 -- what was cut off once is cut off again
 take_again : (n : ℕ) (xs ys : List ℕ) → take n (take n xs ++ ys) ≡ take n (xs ++ ys)
@@ -52,10 +53,6 @@ puts_none old at b full =
       length_is = rw text full;
     }
 
--- the same text
-pub puts_same : {xs ys old : List ℕ} {at : ℕ} {new : List ℕ} {r : ℕ} → xs ≡ ys → Puts xs old at new r → Puts ys old at new r
-puts_same {old = old} {at = at} {new = new} {r = r} = subst (λ t. Puts t old at new r)
-
 module _ {xs old : List ℕ} {at : ℕ} {mid : List ℕ} {e : ℕ} (first : Puts xs old at mid e) where
   cut : length (text_put xs old at) ≤ length old
   unfolding text_put
@@ -85,22 +82,38 @@ module _ {xs old : List ℕ} {at : ℕ} {mid : List ℕ} {e : ℕ} (first : Puts
         length_is = second.length_is ∙ ap length text;
       }
 
--- with room for all of it the whole text stands there
-pub puts_whole : {text old new : List ℕ} {r : ℕ} → length text ≤ length old → Puts text old 0 new r → Stands text old new r
+-- THE SAME OF A TEXT and the slice that is lent for it
+pub adds_nothing : (t : Text) → Within t → Adds [] t t
+adds_nothing t within = record {
+  puts = puts_nothing t.out.now t.end within;
+  within = within;
+  same_reference = refl;
+}
+
+pub adds_same : {xs ys : List ℕ} {a b : Text} → xs ≡ ys → Adds xs a b → Adds ys a b
+adds_same {a = a} {b = b} = subst (λ t. Adds t a b)
+
+pub adds_both : {xs ys : List ℕ} {a b c : Text} → Adds xs a b → Adds ys b c → Adds (xs ++ ys) a c
+adds_both first second = record {
+  puts = puts_both first.puts second.puts;
+  within = second.within;
+  same_reference = second.same_reference ∙ first.same_reference;
+}
+
+-- with room for all of it the whole text stands in a slice that had none
+pub adds_whole : {text old new : List ℕ} {a b : Text} → a.out.now ≡ old → a.end ≡ 0 → length text ≤ length old → Adds text a b
+    → new ≡ b.out.now → Stands text old new b.end
 unfolding text_put
-puts_whole {text} {old} room puts =
+adds_whole {text} {old} slice empty room added last =
+    let puts = rw (slice, empty) at added.puts in
     let all : text_put text old 0 ≡ text = take_all (length old) text room in
     record {
-      slice = puts.slice ∙ ap (λ t. over t old) all;
+      slice = last ∙ puts.slice ∙ ap (λ t. over t old) all;
       length_is = puts.length_is ∙ ap length all;
-      within = put_within puts;
+      within = rw last added.within;
     }
 
--- the first i bytes of a text, then the next; and all of them
-module _ (text : List ℕ) (i : ℕ) {old : List ℕ} {at : ℕ} {mid : List ℕ} {e : ℕ} where
-  pub puts_next : i < length text → Puts (take i text) old at mid e → {new : List ℕ} {r : ℕ} → Puts (get_or text i 0 ∷ []) mid e new r
-      → Puts (take (i + 1) text) old at new r
-  puts_next l first second = rw (add-one, take-suc text i 0) (puts_both first second)
-
-  pub puts_all : length text ≤ i → Puts (take i text) old at mid e → Puts text old at mid e
-  puts_all l put = rw take_all at put
+-- the first i bytes of a text, then the next
+pub adds_next : (text : List ℕ) (i : ℕ) {a b c : Text} → i < length text → Adds (take i text) a b → Adds (get_or text i 0 ∷ []) b c
+    → Adds (take (i + 1) text) a c
+adds_next text i l first second = rw (add-one, take-suc text i 0) (adds_both first second)

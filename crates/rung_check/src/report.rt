@@ -1,131 +1,111 @@
-// The lines that are printed for a file, put into a lent slice.
-ghost use Rattle.std.specs.Prelude.{◌+◌, ◌-◌, ◌≤◌, ◌++◌, length, take, drop};
+// The lines that are printed for a file.
+ghost use Rattle.std.specs.Prelude.{◌+◌, ◌≤◌, ◌++◌, length};
 ghost use Rattle.laws.specs.Model.{eight};
 ghost use Rattle.laws.specs.Answers.{verdict_answer};
-ghost use Rattle.laws.specs.Program.{sets_text, profiles_text, count_line, word_line, fault_line, answer_lines, told as lines_of, printed};
+ghost use Rattle.laws.specs.Program.{sets_text, profiles_text, count_line, fault_line, answer_lines, told as lines_of, printed};
 ghost use Rattle.model.specs.Asked.{asked};
+ghost use Rattle.model.specs.Numbers.{number_of};
 ghost use Rattle.cover.specs.Verdicts.{told, given};
-ghost use Rattle.rung_check.specs.Putting.{Puts, Stands};
+ghost use Rattle.rung_check.specs.Putting.{Within, Adds, Stands};
 
-use crate::text::{put, put_number, put_text};
+use crate::text::Text;
+use closing::{ProfileMemory, Refused, SetMemory};
 use cover::Answer;
-use model::{Model, Reading};
+use model::{Fault, Model};
 
 // The word memory of document 01: u has at most 255 letters and v at most 2,048.
 const MOST_LETTERS: usize = 2304;
 
-// The line of a count, behind its text.
-fn put_count(text: &[u8], count: u64, out: &mut [u8], at: usize) -> usize
-    requires { at ≤ length out.old }
-    ensures { Puts (count_line text.now count) out.old at out.new result }
-{
-    let end = put_text(text, out, at);
-    let end = put_number(count, out, end);
-    put(b'\n', out, end)
-}
-
-// The line of a word: its name, then the letters that stand in the word memory from one place up to another, a space before each.
-fn put_word(name: u8, memory: &[u8], from: usize, to: usize, out: &mut [u8], at: usize) -> usize
-    requires { (from ≤ to) × (to ≤ length memory.now) × (at ≤ length out.old) }
-    ensures { Puts (word_line name (take (to - from) (drop from memory.now))) out.old at out.new result }
-{
-    let mut end = put(name, out, at);
-    let mut i = from;
-    while i < to {
-        end = put(b' ', out, end);
-        end = put_number(memory[i] as u64, out, end);
-        i += 1;
-    }
-    put(b'\n', out, end)
-}
-
 // The lines for the counts.
-fn put_counts(sets: usize, profiles: usize, out: &mut [u8]) -> usize
-    ensures { Puts (count_line sets_text sets ++ count_line profiles_text profiles) out.old 0 out.new result }
+fn put_counts(sets: usize, profiles: usize, text: &mut Text)
+    requires { Within text.old }
+    ensures { Adds (count_line sets_text sets ++ count_line profiles_text profiles) text.old text.new }
 {
-    let end = put_count(b"sets ", sets as u64, out, 0);
-    put_count(b"profiles ", profiles as u64, out, end)
+    text.put_count(b"sets ", sets as u64);
+    text.put_count(b"profiles ", profiles as u64);
 }
 
 // The lines for an answer of the verdict; u and v stand one behind the other in the word memory.
-fn put_answer(answer: Answer, memory: &[u8], out: &mut [u8]) -> usize
-    requires { (told answer).u + (told answer).v ≤ length memory.now }
-    ensures { Puts
+#[tactic(auto, unfolding(cover::specs::Verdicts::told))]
+fn put_answer(answer: Result<Answer, Refused>, memory: &[u8], text: &mut Text)
+    requires words { (told answer).u + (told answer).v ≤ length memory.now }
+    requires within { Within text.old }
+    ensures { Adds
         (answer_lines (told answer).number (told answer).sets (told answer).profiles (given answer memory.now))
-        out.old 0 out.new result }
+        text.old text.new }
 {
     match answer {
-        Answer::Covered { sets, profiles } => {
-            let end = put_counts(sets, profiles, out);
-            put_text(b"covered\n", out, end)
+        Ok(Answer::Covered { sets, profiles }) => {
+            put_counts(sets, profiles, text);
+            text.put_text(b"covered\n");
         }
-        Answer::Uncovered {
-            sets,
-            profiles,
-            u,
-            v,
-        } => {
-            let both = u + v;
-            let end = put_counts(sets, profiles, out);
-            let end = put_text(b"uncovered\n", out, end);
-            let end = put_word(b'u', memory, 0, u, out, end);
-            put_word(b'v', memory, u, both, out, end)
+        Ok(
+            Answer::Uncovered {
+                sets,
+                profiles,
+                u,
+                v,
+            },
+        ) => {
+            put_counts(sets, profiles, text);
+            text.put_text(b"uncovered\n");
+            let (first, rest) = memory.split_at(u);
+            text.put_word(b'u', first);
+            text.put_word(b'v', &rest[..v]);
         }
-        Answer::Refused {
-            number,
-            sets: _,
-            profiles: _,
-        } => put_count(b"refused ", number as u64, out, 0),
+        Err(refused) => text.put_count(b"refused ", u64::from(u8::from(refused.refusal))),
     }
 }
 
 // The line for a refusal of the reader.
-fn put_fault(number: u8, offset: usize, out: &mut [u8]) -> usize
-    ensures { Puts (fault_line (record { number = number; offset = offset })) out.old 0 out.new result }
+fn put_fault(fault: Fault, text: &mut Text)
+    requires { Within text.old }
+    ensures { Adds (fault_line (record { number = number_of fault.refusal; offset = fault.offset })) text.old text.new }
 {
-    let end = put_text(b"refused ", out, 0);
-    let end = put_number(number as u64, out, end);
-    put_count(b" at ", offset as u64, out, end)
+    text.put_text(b"refused ");
+    text.put_number(u64::from(u8::from(fault.refusal)));
+    text.put_count(b" at ", fault.offset as u64);
 }
 
 // The verdict of a model, with tables of as many sets and profiles as are ever used, and room for every u and v.
-fn check(m: Model, arrows: &[u64], out: &mut [u8]) -> usize
-    ensures { Puts
-        (lines_of (verdict_answer eight (asked m arrows.now) 256 2048 2304))
-        out.old 0 out.new result }
+fn check(m: Model, arrows: &[u64], text: &mut Text)
+    requires { Within text.old }
+    ensures { Adds (lines_of (verdict_answer eight (asked m arrows.now) 256 2048 2304)) text.old text.new }
 {
-    let mut set_masks = [0u8; 256];
-    let mut set_from = [65535u16; 256];
-    let mut set_event = [0u8; 256];
-    let mut profile_arrows = [0u64; 2048];
-    let mut profile_marks = [0u64; 2048];
-    let mut profile_from = [65535u16; 2048];
-    let mut profile_event = [0u8; 2048];
+    let mut sets = SetMemory {
+        masks: &mut [0u8; 256],
+        from: &mut [65535u16; 256],
+        event: &mut [0u8; 256],
+    };
+    let mut profiles = ProfileMemory {
+        arrows: &mut [0u64; 2048],
+        marks: &mut [0u64; 2048],
+        from: &mut [65535u16; 2048],
+        event: &mut [0u8; 2048],
+    };
     let mut memory = [0u8; MOST_LETTERS];
-    let answer = cover::verdict(
-        m,
-        arrows,
-        &mut set_masks,
-        &mut set_from,
-        &mut set_event,
-        &mut profile_arrows,
-        &mut profile_marks,
-        &mut profile_from,
-        &mut profile_event,
-        &mut memory,
-    );
-    put_answer(answer, &memory, out)
+    let answer = cover::verdict(m, arrows, &mut sets, &mut profiles, &mut memory);
+    put_answer(answer, &memory, text);
 }
 
-// What is printed for a file, all of it: a longest report has no more than 8,192 bytes.
+// What is printed for a file: the refusal of the reader, or what the verdict on its model says.
+fn put_report(file: &[u8], text: &mut Text)
+    requires { Within text.old }
+    ensures { Adds (printed file.now) text.old text.new }
+{
+    let mut arrows = [0u64; Model::EVENTS];
+    match model::read(file, &mut arrows) {
+        Ok(m) => check(m, &arrows, text),
+        Err(fault) => put_fault(fault, text),
+    }
+}
+
+// All of it: a longest report has no more than 8,192 bytes.
 pub fn report(file: &[u8], out: &mut [u8]) -> usize
     requires { 8192 ≤ length out.old }
     ensures { Stands (printed file.now) out.old out.new result }
 {
-    let mut arrows = [0u64; 16];
-    let read = model::read(file, &mut arrows);
-    match read {
-        Reading::Read { model } => check(model, &arrows, out),
-        Reading::Refused { number, offset } => put_fault(number, offset, out),
-    }
+    let mut text = Text::new(out);
+    put_report(file, &mut text);
+    text.end
 }

@@ -1,41 +1,75 @@
 // Text, put piece by piece into a lent slice; what there is no room for is left out.
-ghost use Rattle.std.specs.Prelude.{◌≤◌, [], ◌∷◌, length};
-ghost use Rattle.laws.specs.Program.{decimal};
-ghost use Rattle.rung_check.specs.Putting.{Puts};
+ghost use Rattle.std.specs.Prelude.{◌≡◌, [], ◌∷◌};
+ghost use Rattle.laws.specs.Program.{decimal, count_line, word_line};
+ghost use Rattle.rung_check.specs.Putting.{Within, Adds};
 
-// One byte behind the text that ends at a place.
-pub fn put(byte: u8, out: &mut [u8], at: usize) -> usize
-    requires { at ≤ length out.old }
-    ensures { Puts (byte ∷ []) out.old at out.new result }
-{
-    if at < out.len() {
-        out[at] = byte;
-        return at + 1;
-    }
-    at
+// A lent slice, and where in it the text ends.
+#[derive(Drop)]
+pub struct Text<'a> {
+    out: &'a mut [u8],
+    pub end: usize,
 }
 
-pub fn put_text(text: &[u8], out: &mut [u8], at: usize) -> usize
-    requires { at ≤ length out.old }
-    ensures { Puts text.now out.old at out.new result }
-{
-    let mut end = at;
-    let mut i = 0;
-    while i < text.len() {
-        end = put(text[i], out, end);
-        i += 1;
+impl<'a> Text<'a> {
+    pub fn new(out: &'a mut [u8]) -> Text<'a>
+        ensures same_reference { result.out.ghost_name ≡ out.entry.ghost_name }
+        ensures slice { result.out.now ≡ out.old }
+        ensures empty { result.end ≡ 0 }
+    {
+        Text { out, end: 0 }
     }
-    end
-}
 
-// A number in decimal digits: those of its tenth, then its last one.
-pub fn put_number(x: u64, out: &mut [u8], at: usize) -> usize
-    requires { at ≤ length out.old }
-    ensures { Puts (decimal x) out.old at out.new result }
-{
-    let mut end = at;
-    if 10 <= x {
-        end = put_number(x / 10, out, at);
+    // One byte behind the text.
+    pub fn put(&mut self, byte: u8)
+        requires { Within self.old }
+        ensures { Adds (byte ∷ []) self.old self.new }
+    {
+        if self.end < self.out.len() {
+            self.out[self.end] = byte;
+            self.end += 1;
+        }
     }
-    put(48 + (x % 10) as u8, out, end)
+
+    pub fn put_text(&mut self, text: &[u8])
+        requires { Within self.old }
+        ensures { Adds text.now self.old self.new }
+    {
+        for byte in text {
+            self.put(*byte);
+        }
+    }
+
+    // A number in decimal digits: those of its tenth, then its last one.
+    pub fn put_number(&mut self, x: u64)
+        requires { Within self.old }
+        ensures { Adds (decimal x) self.old self.new }
+    {
+        if 10 <= x {
+            self.put_number(x / 10);
+        }
+        self.put(b'0' + (x % 10) as u8);
+    }
+
+    // The line of a count, behind its text.
+    pub fn put_count(&mut self, text: &[u8], count: u64)
+        requires { Within self.old }
+        ensures { Adds (count_line text.now count) self.old self.new }
+    {
+        self.put_text(text);
+        self.put_number(count);
+        self.put(b'\n');
+    }
+
+    // The line of a word: its name, then its letters, a space before each.
+    pub fn put_word(&mut self, name: u8, word: &[u8])
+        requires { Within self.old }
+        ensures { Adds (word_line name word.now) self.old self.new }
+    {
+        self.put(name);
+        for letter in word {
+            self.put(b' ');
+            self.put_number(u64::from(*letter));
+        }
+        self.put(b'\n');
+    }
 }

@@ -3,20 +3,18 @@
 // that it is seen what is written and what is left. The file stdout was written by the independent program.
 #![tactic(auto)]
 
-ghost use Rattle.std.specs.Prelude.{◌<◌};
-
-use model::{Model, least};
+use model::Model;
 use std::io;
 use std::io::Read;
 
 mod courses;
 mod opposites;
 mod sums;
+mod tables;
 mod verdicts;
 
 use courses::show_course;
 use opposites::show_opposite;
-use sums::wide;
 use verdicts::show_verdict;
 
 // A stored model: the two masks, how many arrow numbers are lent, and what is asked for, a byte each; then n, k and 17 arrow numbers of eight
@@ -26,22 +24,27 @@ const HEAD: usize = 4;
 const MOST_ARROWS: usize = 17;
 
 // What is asked for: the verdict, or the course that follows, or the opposite.
-const COURSE: u8 = 1;
-
-const OPPOSITE: u8 = 2;
-
-// Four bytes, low byte first.
-fn half(a: u8, b: u8, c: u8, d: u8) -> u64
-    ensures { result < 4294967296 }
-{
-    wide(a) + 256 * wide(b) + 65536 * wide(c) + 16777216 * wide(d)
+enum Asked {
+    Verdict,
+    Course,
+    Opposite,
 }
 
-// Where the input ends early, zeros stand for what is missing.
+impl From<u8> for Asked {
+    fn from(byte: u8) -> Asked {
+        match byte {
+            1 => Asked::Course,
+            2 => Asked::Opposite,
+            _ => Asked::Verdict,
+        }
+    }
+}
+
+// Eight bytes, low byte first. Where the input ends early, zeros stand for what is missing.
 fn read_number<R: Read>(input: &mut R) -> u64 {
-    let mut b = [0u8; 8];
-    let _ = input.read_exact(&mut b);
-    half(b[0], b[1], b[2], b[3]) + 4294967296 * half(b[4], b[5], b[6], b[7])
+    let mut bytes = [0u8; 8];
+    let _ = input.read_exact(&mut bytes);
+    u64::from_le_bytes(bytes)
 }
 
 fn show<P: Print, R: Read>(
@@ -49,42 +52,30 @@ fn show<P: Print, R: Read>(
     input: &mut R,
     m: Model,
     arrows: &[u64],
-    asked: u8,
+    asked: Asked,
 ) -> io::Result<()> {
-    if asked == COURSE {
-        return show_course(rt, input, m, arrows);
+    match asked {
+        Asked::Verdict => show_verdict(rt, m, arrows),
+        Asked::Course => show_course(rt, input, m, arrows),
+        Asked::Opposite => show_opposite(rt, m, arrows),
     }
-    if asked == OPPOSITE {
-        return show_opposite(rt, m, arrows);
-    }
-    show_verdict(rt, m, arrows)
-}
-
-// As many of the arrow numbers as the stored model says are lent.
-fn show_lent<P: Print, R: Read>(
-    rt: &P,
-    input: &mut R,
-    m: Model,
-    arrows: &[u64],
-    lent: usize,
-    asked: u8,
-) -> io::Result<()> {
-    let n = least(lent, arrows.len());
-    show(rt, input, m, &arrows[..n], asked)
 }
 
 fn show_stored<P: Print, R: Read>(rt: &P, input: &mut R, head: [u8; HEAD]) -> io::Result<()> {
+    let [start, home, lent, asked] = head;
     let m = Model {
         n: read_number(input) as usize,
         k: read_number(input) as usize,
-        start: head[0],
-        home: head[1],
+        start,
+        home,
     };
     let mut arrows = [0u64; MOST_ARROWS];
     for a in 0..MOST_ARROWS {
         arrows[a] = read_number(input);
     }
-    show_lent(rt, input, m, &arrows, wide(head[2]) as usize, head[3])
+    // As many of them as the stored model says are lent.
+    let lent = usize::from(lent).min(MOST_ARROWS);
+    show(rt, input, m, &arrows[..lent], Asked::from(asked))
 }
 
 fn main(rt: HostRuntime) -> io::Result<()> {

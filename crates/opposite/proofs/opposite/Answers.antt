@@ -1,53 +1,53 @@
 -- After closing each return is one of two cases: a refusal, or what is drawn from the first places of the slices, where closing left the
 -- complete tables.
 use native.Mathlib.Omega.{arith}
-use mathlib.Core.Path.{sym, subst}
-use lib.Seq.{length-take-le}
+use mathlib.Core.Path.{◌≡◌}
+use lib.ListN.{length-take}
+use Rattle.std.specs.Prelude.{Option as Maybe, None, Err}
+use Rattle.std.specs.Option.{ok_or}
+use Rattle.closing.specs.declared.Refused.{Refused}
+use Rattle.opposite.specs.declared.counts.Counts.{Counts}
 use Rattle.closing.proofs.Promises.{sets_stand, profiles_stand}
-use Rattle.opposite.specs.Opposites.{WritesOpposite}
-use Rattle.opposite.proofs.Concluding.{refuses, drawable, draws}
+use Rattle.opposite.proofs.Concluding.{passed_on, refuses, unrefused, draws}
 use Rattle.opposite.proofs.opposite.Goals as goal
 
-pub returns-then-closed-ne0 : goal.returns-then-closed-ne0
-returns-then-closed-ne0 c =
-    refuses c.close-closed.ensures _ c.if-closed-ne0.true
+-- a refusal in place of what was not drawn
+refused_with : {drawn : Maybe Counts} {e r : Refused} → Err e ≡ ok_or drawn r → drawn ≡ None → e ≡ r
+refused_with v n = let same = rw n at v in cc
 
-pub slice_bounds-draw-end : goal.slice_bounds-draw-end
-slice_bounds-draw-end c =
-    let s = sets_stand c.close-closed.ensures in
+pub returns-in_err-closed-clause-opposite : goal.returns-in_err-closed-clause-opposite
+returns-in_err-closed-clause-opposite c =
+    rw (passed_on _ _ c.from_residual.ensures) (refuses _ c.in_err-closed.field-0.0 c.in_err-closed.ensures.closing)
+
+pub invariant_of-asked : goal.invariant_of-asked
+invariant_of-asked c = record { unrefused = unrefused c.in_ok-closed.ensures.closing }
+
+pub tables_of-tables-requires-clause-sets : goal.tables_of-tables-requires-clause-sets
+tables_of-tables-requires-clause-sets c =
+    let s = sets_stand c.in_ok-closed.ensures.closing in
     omega arith
 
-pub slice_bounds-draw-end-2 : goal.slice_bounds-draw-end-2
-slice_bounds-draw-end-2 c =
-    let s = sets_stand c.close-closed.ensures in
-    sym (length-take-le _ _ (omega arith))
+pub tables_of-tables-requires-clause-profiles : goal.tables_of-tables-requires-clause-profiles
+tables_of-tables-requires-clause-profiles c =
+    let s = profiles_stand c.in_ok-closed.ensures.closing in
+    (omega arith, omega arith)
 
-pub slice_bounds-draw-end-3 : goal.slice_bounds-draw-end-3
-slice_bounds-draw-end-3 c =
-    let s = profiles_stand c.close-closed.ensures in
-    omega arith
+pub draw-requires : goal.draw-requires
+draw-requires c =
+    let s = sets_stand c.in_ok-closed.ensures.closing in
+    let t = profiles_stand c.in_ok-closed.ensures.closing in
+    let e = c.tables_of-tables.ensures in
+    record { few = rw (e.masks, e.arrows) (simp length-take (omega arith), simp length-take (omega arith)) }
 
-pub slice_bounds-draw-end-4 : goal.slice_bounds-draw-end-4
-slice_bounds-draw-end-4 c =
-    let s = profiles_stand c.close-closed.ensures in
-    sym (length-take-le _ _ (omega arith))
+pub returns-in_err-drawn-clause-opposite : goal.returns-in_err-drawn-clause-opposite
+returns-in_err-drawn-clause-opposite c =
+    let e = c.tables_of-tables.ensures in
+    let o = c.in_err-drawn.ensures in
+    let d = rw (e.asked, e.masks, e.arrows, e.marks, o.ok_part) at c.draw.ensures.draws in
+    rw (passed_on _ _ c.from_residual-in_err-drawn.ensures, refused_with o.value o.ok_part) (draws c.in_ok-closed.ensures.closing d)
 
-pub slice_bounds-draw-end-5 : goal.slice_bounds-draw-end-5
-slice_bounds-draw-end-5 c =
-    let s = profiles_stand c.close-closed.ensures in
-    omega arith
-
-pub slice_bounds-draw-end-6 : goal.slice_bounds-draw-end-6
-slice_bounds-draw-end-6 c =
-    let s = profiles_stand c.close-closed.ensures in
-    sym (length-take-le _ _ (omega arith))
-
-pub draw-drawn-requires : goal.draw-drawn-requires
-draw-drawn-requires c =
-    let d = drawable c.close-closed.ensures c.if-closed-ne0.false in
-    record { unrefused = d.0; marks_len = d.1 }
-
-pub returns : goal.returns
-returns c =
-    subst (WritesOpposite _ _ _ _ _ _ _ _) (sym c.answered.ensures)
-    (draws c.close-closed.ensures c.if-closed-ne0.false c.draw-drawn.ensures)
+pub returns-clause-opposite : goal.returns-clause-opposite
+returns-clause-opposite c =
+    let e = c.tables_of-tables.ensures in
+    let d = rw (e.asked, e.masks, e.arrows, e.marks, c.in_ok-drawn.ensures.ok_part) at c.draw.ensures.draws in
+    draws c.in_ok-closed.ensures.closing d

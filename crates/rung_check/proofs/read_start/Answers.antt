@@ -32,8 +32,8 @@ pub loop-count-preserved : goal.loop-count-preserved
 loop-count-preserved g c =
     let more = c.unwrap_or-more.ensures in
     let few : c.unwrap_or-more.result ≤ length c.read.new.buf = rw more (fits c.read.result c.read.new.buf c.read.ensures.bound) in
-    let took = rw (← more) at (taken _ _ c.read.result c.read.new.buf c.read.ensures.bytes) in (
-      search rules,
-      search rules,
-      rw (behind _ _ _ _ _ c.loop-count.invariant.1 few) (Consumes-trans _ _ _ _ _ c.loop-count.invariant.2 took),
-    )
+    let took = rw (← more) at (taken _ _ c.read.result c.read.new.buf c.read.ensures.bytes) in
+    record {
+      within = search rules;
+      bytes = rw (behind _ _ _ _ _ c.loop-count.invariant.within few) (Consumes-trans _ _ _ _ _ c.loop-count.invariant.bytes took);
+    }

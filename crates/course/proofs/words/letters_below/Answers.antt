@@ -1,12 +1,10 @@
--- The loop keeps that the letters left to read are below k exactly if all are: it drops only letters below k.
-use Rattle.course.proofs.Judging.{letter_high, letter_low, letters_low}
+-- The chain's test holds exactly if each letter passes it.
+use Rattle.std.proofs.Common.{rules}
+use Rattle.std.specs.Prelude.{IsTrue, EachIndex, ◌↔◌, ◌<◌, slice_index}
+use Rattle.course.proofs.Judging.{all_below}
 use Rattle.course.proofs.words.letters_below.Goals as goal
 
-pub returns-then-k-w : goal.returns-then-k-w
-returns-then-k-w c = letter_high _ _ c.loop-i.invariant c.loop-i-test.true c.if-k-w.true
-
-pub loop-i-preserved : goal.loop-i-preserved
-loop-i-preserved c = letter_low _ _ c.loop-i.invariant c.loop-i-test.true c.if-k-w.false
-
 pub returns : goal.returns
-returns c = letters_low _ _ c.loop-i.invariant c.loop-i-test.false
+returns c =
+    let each : IsTrue c.all.result ↔ EachIndex c.args.w.now (λ i. slice_index c.args.w.now i < c.args.k) = search rules in
+    all_below _ _ each

@@ -1,23 +1,15 @@
--- The loop keeps that the arrows of no event below a have such a bit. Some of the first k numbers has one exactly if the number at some
--- place below k has.
-use mathlib.Core.Path.{sym, ◌∙◌}
-use Rattle.model.proofs.Beyond.{some_taken}
-use Rattle.laws.proofs.Searching.{start, miss, hit, end}
+-- The first k arrow numbers are asked one after the other.
+use mathlib.Core.Path.{◌∙◌}
+use lib.ListN.{take}
+use Rattle.std.proofs.Common.{rules, tests}
+use Rattle.std.proofs.lemmas.Iterator.{YieldsList-from_slice}
+use Rattle.std.proofs.lemmas.Iterator.Search.{any_from_yields_List}
+use Rattle.laws.specs.Refusals.{arrows_beyond}
+use Rattle.model.proofs.Beyond.{asked_any}
 use Rattle.model.proofs.bounds.some_beyond.Goals as goal
 
-pub loop-a-init : goal.loop-a-init
-loop-a-init c = start
-
-pub returns-then-beyond : goal.returns-then-beyond
-returns-then-beyond c =
-    let so = hit c.loop-a.invariant c.loop-a-test.true c.beyond.ensures
-    c.if-beyond.true in
-    so ∙ sym (some_taken _ 0 _ _ c.requires.1)
-
-pub loop-a-preserved : goal.loop-a-preserved
-loop-a-preserved c =
-    miss c.loop-a.invariant c.loop-a-test.true c.beyond.ensures
-    c.if-beyond.false
-
 pub returns : goal.returns
-returns c = end c.loop-a.invariant c.loop-a-test.false ∙ sym (some_taken _ 0 _ _ c.requires.1)
+returns c =
+    let first = take c.args.k c.args.arrows.now in
+    any_from_yields_List (arrows_beyond 8 c.args.n) _ _ _ c.any.ensures.ran (YieldsList-from_slice first cc) (λ x b q k. search (rules, tests))
+    ∙ asked_any (arrows_beyond 8 c.args.n) first

@@ -1,6 +1,6 @@
 -- The bytes of the end field are tested before the end of the file, as in the checks of that field.
 use native.Mathlib.Omega.{arith}
-use mathlib.Core.Path.{refl, sym, ◌∙◌}
+use mathlib.Core.Path.{refl, sym}
 use borrow.Author.Tests.{lt-ltb, le-ltb}
 use Rattle.laws.specs.File.{end_checks}
 use Rattle.laws.proofs.Checks.{passed_field, stopped_form, stopped_value}
@@ -8,14 +8,14 @@ use Rattle.model.proofs.fields.end_at.Goals as goal
 
 pub returns-then-not-stand_at : goal.returns-then-not-stand_at
 unfolding end_checks
-returns-then-not-stand_at c = (stopped_form _ 8 _ _ _ (sym c.stand_at.ensures ∙ c.if-not-stand_at.true), omega arith)
+returns-then-not-stand_at c = stopped_form _ 8 _ _ _ (sym c.if-not-stand_at.ensures)
 
 pub returns-then-at-file : goal.returns-then-at-file
 unfolding end_checks
 returns-then-at-file c =
-    (stopped_value _ 8 _ _ _ (sym c.stand_at.ensures ∙ c.if-not-stand_at.false) (lt-ltb _ _ c.if-at-file.true), omega arith)
+    stopped_value _ 8 _ _ _ (sym c.if-not-stand_at.ensures) (lt-ltb _ _ c.if-at-file.true)
 
 pub returns : goal.returns
 unfolding end_checks
 returns c =
-    (passed_field _ 8 _ _ _ (sym c.stand_at.ensures ∙ c.if-not-stand_at.false) (le-ltb _ _ c.if-at-file.false), (refl, omega arith))
+    (passed_field _ 8 _ _ _ (sym c.if-not-stand_at.ensures) (le-ltb _ _ c.if-at-file.false), (refl, omega arith))

@@ -1,30 +1,24 @@
--- The form is tested before the number, as in the checks of the field. A field that is not cut has the byte of its number.
-use Prim.Native.Nat.{◌+◌}
-use native.Mathlib.Omega.{arith}
-use mathlib.Core.Path.{refl, sym, ◌∙◌}
-use Rattle.laws.specs.File.{byte, value, number_checks}
-use Rattle.laws.proofs.Checks.{passed_field, stopped_form, stopped_value}
-use Rattle.laws.proofs.FileForm.{whole}
+-- The form is tested before the number, as in the checks of the field.
+use mathlib.Core.Path.{sym, ◌∙◌}
+use Rattle.std.proofs.lemmas.Result.{err_from_is_err_and}
+use Rattle.laws.specs.File.{number_checks}
+use Rattle.laws.proofs.Checks.{passed_check, stopped_check}
 use Rattle.model.proofs.fields.number_at.Goals as goal
 
-pub returns-then-not-is_formed : goal.returns-then-not-is_formed
+pub returns-in_err-number : goal.returns-in_err-number
 unfolding number_checks
-returns-then-not-is_formed c = (stopped_form _ 1 _ _ _ (sym c.is_formed.ensures ∙ c.if-not-is_formed.true), omega arith)
-
-pub bounds-file-at : goal.bounds-file-at
-bounds-file-at c = omega (arith, whole _ _ _ 1 (sym c.is_formed.ensures ∙ c.if-not-is_formed.false))
+returns-in_err-number c =
+    let p = err_from_is_err_and c.from_residual.result c.from_residual.ensures.1 in
+    rw (p.1, p.2) (λ rest. c.in_err-number.ensures _)
 
 pub returns-then-is_outside : goal.returns-then-is_outside
-unfolding number_checks value byte
-returns-then-is_outside c = (
-  stopped_value _ 1 _ _ _ (sym c.is_formed.ensures ∙ c.if-not-is_formed.false)
-      (sym c.is_outside.ensures ∙ c.if-is_outside.true),
-  omega arith,
-)
+unfolding number_checks
+returns-then-is_outside c =
+    let (passed, (same, _)) = c.in_ok-number.ensures in
+    λ rest. passed _ ∙ stopped_check 1 _ (rw (← same) (sym c.if-is_outside.ensures)) rest
 
 pub returns : goal.returns
-unfolding number_checks value byte
-returns c = (
-  passed_field _ 1 _ _ _ (sym c.is_formed.ensures ∙ c.if-not-is_formed.false) (sym c.is_outside.ensures ∙ c.if-is_outside.false),
-  (refl, omega (arith, c.type_inv.file (c.args.at + 3))),
-)
+unfolding number_checks
+returns c =
+    let (passed, (same, small)) = c.in_ok-number.ensures in
+    (λ rest. passed _ ∙ passed_check 1 _ (rw (← same) (sym c.if-is_outside.ensures)) rest, (same, small))

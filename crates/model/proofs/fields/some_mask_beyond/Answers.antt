@@ -1,20 +1,13 @@
--- The loop keeps that no mask below p has such a bit. Some of the n masks has one exactly if the mask at some place below n has.
-use mathlib.Core.Path.{sym, ◌∙◌}
-use Rattle.laws.proofs.Searching.{start, miss, hit, end}
-use Rattle.model.proofs.EventsRead.{some_of_part}
+-- The masks are asked one after the other.
+use mathlib.Core.Path.{◌∙◌}
+use Rattle.std.proofs.Common.{rules, tests}
+use Rattle.std.proofs.lemmas.Iterator.{YieldsList-from_slice}
+use Rattle.std.proofs.lemmas.Iterator.Search.{any_from_yields_List}
+use Rattle.laws.specs.Refusals.{mask_beyond}
+use Rattle.model.proofs.Beyond.{asked_any}
 use Rattle.model.proofs.fields.some_mask_beyond.Goals as goal
 
-pub loop-p-init : goal.loop-p-init
-loop-p-init c = start
-
-pub returns-then-row_beyond : goal.returns-then-row_beyond
-returns-then-row_beyond c =
-    hit c.loop-p.invariant c.loop-p-test.true c.row_beyond.ensures c.if-row_beyond.true
-    ∙ sym (some_of_part _ _ _ _ c.requires.1)
-
-pub loop-p-preserved : goal.loop-p-preserved
-loop-p-preserved c =
-    miss c.loop-p.invariant c.loop-p-test.true c.row_beyond.ensures c.if-row_beyond.false
-
 pub returns : goal.returns
-returns c = end c.loop-p.invariant c.loop-p-test.false ∙ sym (some_of_part _ _ _ _ c.requires.1)
+returns c =
+    any_from_yields_List (mask_beyond c.args.n) _ _ _ c.any.ensures.ran (YieldsList-from_slice c.args.masks.now cc) (λ x b q k. search (rules, tests))
+    ∙ asked_any (mask_beyond c.args.n) c.args.masks.now

@@ -1,11 +1,17 @@
--- Where the file ends before the third byte the three do not stand there; where it does not, the tests are those of the three bytes.
+-- Where the file ends before the third byte the three do not stand there; where it does not, they are compared with those that do.
+use Prim.Native.Nat.{◌+◌, ◌-◌}
 use native.Mathlib.Omega.{arith}
-use mathlib.Core.Path.{sym}
-use Rattle.model.proofs.FieldsRead.{cut_short, three_tests}
+use mathlib.Core.Path.{◌≡◌, ◌∙◌}
+use lib.ListN.{length}
+use borrow.Author.Tests.{lt-leb}
+use Rattle.model.proofs.FieldsRead.{cut_short, stand_equal}
 use Rattle.model.proofs.fields.stand_at.Goals as goal
 
-pub returns-then-file-at : goal.returns-then-file-at
-returns-then-file-at c = sym (cut_short _ _ _ (omega arith) c.if-file-at.true)
+pub returns-then-at-file : goal.returns-then-at-file
+returns-then-at-file c =
+    let a = c.args in
+    let three : a.at + 3 - a.at ≡ length a.bytes = omega arith in
+    c.eq.ensures ∙ rw three (stand_equal a.file.now a.at a.bytes (omega arith))
 
-pub returns : goal.returns
-returns c = three_tests _ _ _ (omega arith) c.if-file-at.false
+pub returns-else-at-file : goal.returns-else-at-file
+returns-else-at-file c = rw (cut_short c.args.file.now c.args.at c.args.bytes (omega arith) (omega arith)) (lt-leb _ _ c.if-at-file.false)

@@ -1,14 +1,8 @@
-use Prim.Native.Nat.{◌-◌}
-use lib.ListN.{length}
-use Rattle.laws.specs.Model.{machine}
-use Rattle.model.specs.Asked.{asked}
+use Rattle.model.specs.Lent.{machine_of}
 use Rattle.profile.specs.Values.{profile}
-use Rattle.opposite.specs.Tables.{profiles_at}
+use Rattle.opposite.specs.Lent.{profiles_of}
 use Rattle.opposite.proofs.Adding.{Seconds}
 use Rattle.opposite.proofs.counts.seconds_of.Given as goal
 
 abbrev pub invariant-loop-i : goal.invariant-loop-i
-invariant-loop-i l = Seconds 8 (machine 8 (asked l.m l.lent)) l.m.k (profile l.t) (profiles_at l.arrows l.marks) l.found l.i
-
-abbrev pub decreases-loop-i : goal.decreases-loop-i
-decreases-loop-i l = length l.arrows - l.i
+invariant-loop-i l = Seconds 8 (machine_of l.tables.asked) l.tables.asked.model.k (profile l.t) (profiles_of l.tables.profiles) l.found l.i

@@ -1,68 +1,98 @@
 -- Which profiles have a block is noted in the first flags, and read from there while the sets' and then the blocks' arrows are written. The
 -- opposite fits, so there is room for each, and at last its flags are written over what was noted.
-use native.Mathlib.Omega.{arith}
-use mathlib.Core.Path.{refl, sym, ◌∙◌}
+use Prim.Native.Nat.{ℕ, ◌≤◌}
+use borrow.Author.Rules.{rules}
+use mathlib.Core.Path.{◌≡◌, refl, sym}
+use mathlib.Core.Bool.{cond}
+use mathlib.Core.List.{List, map, ◌++◌}
+use lib.ListN.{length, take, drop}
 use lib.Seq.{length-take-le}
-use Rattle.opposite.proofs.Whole.{note, noted_room, read_room, shown_few, flags_room, last_state, all_idempotent}
+use lib.Dec.{eqb}
+use Rattle.laws.specs.Answers.{OppositeSlices}
+use Rattle.laws.specs.Opposite.{has_block}
+use Rattle.model.specs.Lent.{machine_of}
+use Rattle.opposite.specs.Lent.{profiles_of}
+use Rattle.opposite.specs.Memory.{opposite_memory}
+use Rattle.opposite.specs.Drawing.{Fitting}
+use Rattle.opposite.specs.Lines.{Shows}
+use Rattle.opposite.specs.declared.arrows.Lines.{Lines}
+use Rattle.opposite.specs.declared.tables.Tables.{Tables}
+use Rattle.opposite.proofs.Whole.{Noted, note, noted_room, read_room, shown_few, flags_room, last_state, all_idempotent}
 use Rattle.opposite.proofs.Whole.{sets_room, blocks_room, drawn}
 use Rattle.opposite.proofs.draw.write_all.Goals as goal
 
-pub slice_bounds-show-end-3 : goal.slice_bounds-show-end-3
-slice_bounds-show-end-3 c = noted_room (note 8 _ _ _ _ _ c.requires.marks_len c.requires.fitting c.shown_profiles-profiles.ensures refl)
+-- beside n of the tables' profiles it is noted whether they have a block, in the first flags of an opposite that fits
+module _ (t : Tables) {from event to fs : List ℕ} {h long n : ℕ}
+    (fits :
+    Fitting 8 (machine_of t.asked) t.asked.model.k t.masks.now (profiles_of t.profiles) (opposite_memory from event to fs) h)
+    (all : long ≡ length t.profiles.arrows.now) (is : n ≡ cond (eqb h 0) 0 long) where
+  abbrev of : ℕ → List ℕ
+  of n = map (λ x. cond (has_block 8 t.masks.now x) 1 0) (take n (profiles_of t.profiles))
 
-pub slice_bounds-show-end-4 : goal.slice_bounds-show-end-4
-slice_bounds-show-end-4 c =
-    let s = note 8 _ _ _ _ _ c.requires.marks_len c.requires.fitting c.shown_profiles-profiles.ensures refl in
-    sym (length-take-le _ _ (noted_room s))
+  abbrev Says : List ℕ → Type 0
+  Says new =
+      Noted 8 (machine_of t.asked) t.asked.model.k t.masks.now t.profiles.arrows.now t.profiles.marks.now from event to fs h n new
 
-pub show-requires : goal.show-requires
-show-requires c =
-    let s = note 8 _ _ _ _ _ c.requires.marks_len c.requires.fitting c.shown_profiles-profiles.ensures refl in
-    let arrows_long = sym (length-take-le _ c.args.arrows.now s.within) in
-    (length-take-le _ _ (omega (arith, s.within)) ∙ arrows_long, length-take-le _ _ (noted_room s) ∙ arrows_long)
+  says : {shown : List ℕ} → shown ≡ of n → Says (shown ++ drop n fs)
+  says = note 8 (machine_of t.asked) t.asked.model.k t.masks.now t.profiles.arrows.now t.profiles.marks.now t.profiles.alike fits (rw (← all) is)
 
-pub slice_bounds-sets-end : goal.slice_bounds-sets-end
-slice_bounds-sets-end c =
-    read_room (note 8 _ _ _ _ _ c.requires.marks_len c.requires.fitting c.shown_profiles-profiles.ensures c.show.ensures)
+  -- there is room
+  room : n ≤ length fs
+  room = noted_room (says refl)
 
-pub slice_bounds-sets-end-2 : goal.slice_bounds-sets-end-2
-slice_bounds-sets-end-2 c =
-    let s = note 8 _ _ _ _ _ c.requires.marks_len c.requires.fitting c.shown_profiles-profiles.ensures c.show.ensures in
+  module _ {shown : List ℕ} (w : shown ≡ of (length (take n fs))) where
+    said : Says (shown ++ drop n fs)
+    said =
+        let whole : length (take n fs) ≡ n = length-take-le n fs room in
+        says (rw (← whole) w)
+
+    shows : Shows t (take n (shown ++ drop n fs))
+    shows = record { few = shown_few said; fits = last_state said; squares = all_idempotent said }
+
+-- what stands in the writer's slices stands in those that were lent to it
+lent : {from event to flags : List ℕ} {O : OppositeSlices} (l : Lines) → from ≡ l.from.now → event ≡ l.event.now → to ≡ l.to.now
+    → opposite_memory l.from.now l.event.now l.to.now flags ≡ O → opposite_memory from event to flags ≡ O
+lent l from event to d = rw (from, event, to) d
+
+pub slice_bounds-show-end : goal.slice_bounds-show-end
+slice_bounds-show-end c = room c.args.tables.now c.requires.fitting c.len.ensures c.shown_profiles-profiles.ensures
+
+pub slice_bounds-show-end-2 : goal.slice_bounds-show-end-2
+slice_bounds-show-end-2 c =
+    sym (length-take-le _ _ (room c.args.tables.now c.requires.fitting c.len.ensures c.shown_profiles-profiles.ensures))
+
+pub slice_bounds-shown-end : goal.slice_bounds-shown-end
+slice_bounds-shown-end c =
+    read_room (said c.args.tables.now c.requires.fitting c.len.ensures c.shown_profiles-profiles.ensures c.show.ensures)
+
+pub slice_bounds-shown-end-2 : goal.slice_bounds-shown-end-2
+slice_bounds-shown-end-2 c =
+    let s = said c.args.tables.now c.requires.fitting c.len.ensures c.shown_profiles-profiles.ensures c.show.ensures in
     sym (length-take-le _ _ (read_room s))
 
-pub sets-behind-requires : goal.sets-behind-requires
-sets-behind-requires c =
-    let s = note 8 _ _ _ _ _ c.requires.marks_len c.requires.fitting c.shown_profiles-profiles.ensures c.show.ensures in
+pub sets-requires : goal.sets-requires
+sets-requires c =
+    let s = said c.args.tables.now c.requires.fitting c.len.ensures c.shown_profiles-profiles.ensures c.show.ensures in
     record {
-      unrefused = c.requires.unrefused;
-      marks_len = (c.requires.marks_len, shown_few s, last_state s);
-      marks_value = all_idempotent s;
-      room = sets_room s;
+      shows = shows c.args.tables.now c.requires.fitting c.len.ensures c.shown_profiles-profiles.ensures c.show.ensures;
+      room = record { room = sets_room s };
     }
-
-pub slice_bounds-blocks-end : goal.slice_bounds-blocks-end
-slice_bounds-blocks-end c =
-    read_room (note 8 _ _ _ _ _ c.requires.marks_len c.requires.fitting c.shown_profiles-profiles.ensures c.show.ensures)
-
-pub slice_bounds-blocks-end-2 : goal.slice_bounds-blocks-end-2
-slice_bounds-blocks-end-2 c =
-    let s = note 8 _ _ _ _ _ c.requires.marks_len c.requires.fitting c.shown_profiles-profiles.ensures c.show.ensures in
-    sym (length-take-le _ _ (read_room s))
 
 pub blocks-requires : goal.blocks-requires
 blocks-requires c =
-    let s = note 8 _ _ _ _ _ c.requires.marks_len c.requires.fitting c.shown_profiles-profiles.ensures c.show.ensures in
+    let s = said c.args.tables.now c.requires.fitting c.len.ensures c.shown_profiles-profiles.ensures c.show.ensures in
     record {
-      unrefused = c.requires.unrefused;
-      marks_len = (c.requires.marks_len, shown_few s, last_state s);
-      room = blocks_room s c.sets-behind.ensures;
+      shows = shows c.args.tables.now c.requires.fitting c.len.ensures c.shown_profiles-profiles.ensures c.show.ensures;
+      room = record { room = blocks_room s c.sets.ensures.puts };
     }
 
 pub write-requires : goal.write-requires
 write-requires c =
-    flags_room (note 8 _ _ _ _ _ c.requires.marks_len c.requires.fitting c.shown_profiles-profiles.ensures c.show.ensures)
+    let s = said c.args.tables.now c.requires.fitting c.len.ensures c.shown_profiles-profiles.ensures c.show.ensures in
+    rw c.len-2.ensures (flags_room s)
 
-pub returns : goal.returns
-returns c =
-    let s = note 8 _ _ _ _ _ c.requires.marks_len c.requires.fitting c.shown_profiles-profiles.ensures c.show.ensures in
-    drawn s c.sets-behind.ensures c.blocks-2.ensures c.write.ensures
+pub returns-clause-drawn : goal.returns-clause-drawn
+returns-clause-drawn c =
+    let s = said c.args.tables.now c.requires.fitting c.len.ensures c.shown_profiles-profiles.ensures c.show.ensures in
+    lent c.blocks-2.new.self (search rules) (search rules) (search rules)
+    (drawn s c.sets.ensures.puts c.blocks-2.ensures.puts (rw c.len-2.ensures at c.write.ensures))

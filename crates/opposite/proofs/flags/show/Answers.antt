@@ -1,23 +1,18 @@
 -- Each turn writes whether one profile has a block: it has one exactly if it rejects with a set other than the empty one. The loop keeps
 -- that what is to be written for the profiles from number j on is left to write.
-use Rattle.opposite.proofs.Flagging.{shown_begin, lacks_next, has_next, shown_done}
+use borrow.Author.Rules.{rules}
+use Rattle.opposite.proofs.Adding.{block_by_pairs}
+use Rattle.opposite.proofs.Flagging.{shown_begin, shown_next, shown_done}
 use Rattle.opposite.proofs.flags.show.Goals as goal
 
 pub loop-j-init : goal.loop-j-init
-loop-j-init c =
-    shown_begin 8 c.args.masks.now c.args.arrows.now c.args.marks.now c.requires.0 _ c.requires.1
-
-pub loop-j-preserved-then-pairs_of-eq0 : goal.loop-j-preserved-then-pairs_of-eq0
-loop-j-preserved-then-pairs_of-eq0 c =
-    lacks_next 8 c.args.masks.now c.args.arrows.now c.args.marks.now c.requires.0 c.loop-j.invariant
-    c.loop-j-test.true c.pairs_of.ensures c.if-pairs_of-eq0.true
+loop-j-init c = shown_begin 8 c.args.masks.now c.args.profiles.now _ c.requires
 
 pub loop-j-preserved : goal.loop-j-preserved
 loop-j-preserved c =
-    has_next 8 c.args.masks.now c.args.arrows.now c.args.marks.now c.requires.0 c.loop-j.invariant
-    c.loop-j-test.true c.pairs_of.ensures c.if-pairs_of-eq0.false
+    let has = block_by_pairs 8 _ _ c.pairs_of.ensures in
+    shown_next 8 c.args.masks.now c.args.profiles.now _ c.requires c.loop-j.invariant c.loop-j-test.true c.at.ensures
+    (rw (← has) (search rules))
 
 pub returns : goal.returns
-returns c =
-    shown_done 8 c.args.masks.now c.args.arrows.now c.args.marks.now c.requires.0 c.loop-j.invariant
-    c.loop-j-test.false c.requires.1
+returns c = shown_done 8 c.args.masks.now c.args.profiles.now _ c.requires c.loop-j.invariant c.loop-j-test.false

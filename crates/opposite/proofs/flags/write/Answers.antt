@@ -1,16 +1,12 @@
 -- The flags of the sets are written, and then each turn those of one block. The loop keeps that the flags of the blocks from number b on
 -- are left to write.
 use native.Mathlib.Omega.{arith}
-use Rattle.opposite.proofs.Flagging.{blocks_begin, block_room, blocks_next, blocks_done}
+use Rattle.opposite.proofs.Flagging.{blocks_begin, blocks_next, blocks_done}
 use Rattle.opposite.proofs.flags.write.Goals as goal
 
 pub loop-b-init : goal.loop-b-init
 loop-b-init c =
     blocks_begin c.args.profiles c.args.blocks _ c.args.flags.now c.requires c.set_flags.auto.flags
-
-pub block_flags-requires : goal.block_flags-requires
-block_flags-requires c =
-    block_room c.args.profiles c.args.blocks _ c.loop-b.invariant c.loop-b-test.true
 
 pub loop-b-preserved : goal.loop-b-preserved
 loop-b-preserved c =

@@ -1,43 +1,57 @@
--- The flags are packed from the top, by Horner's rule: the loop keeps x as the number of the flags from i up to n, and one flag more is
--- the lowest bit of the next. A number of at most 64 bits is below 2^64, so nothing overflows.
+-- The bits are packed from the top, by Horner's rule: one bit more is the lowest of the next number. A number of at most 64 bits is below
+-- 2^64, so nothing overflows.
 use Prim.Native.Nat.{ℕ, suc, ◌+◌, ◌-◌, ◌*◌, ◌^◌, ◌<◌, ◌≤◌}
 use native.Mathlib.Omega.{arith}
-use native.Mathlib.Nat.{add-zero, pow-le-pow_right}
-use mathlib.Core.Path.{◌≡◌, refl, ap}
-use mathlib.Core.Bool.{Bool, cond}
+use native.Mathlib.Nat.{pow-succ', pow-le-pow_right}
+use mathlib.Core.Path.{◌≡◌, ap, ◌∙◌}
+use mathlib.Core.Bool.{Bool, false}
+use mir.Val.{bool_byte}
 use Rattle.laws.specs.Bits.{number_of_bits}
-use Rattle.laws.proofs.Packing.{number_of_bits_below, number_of_bits_same}
-use Rattle.profile.proofs.bits.pack.Invariants.{Packed}
+use Rattle.laws.proofs.Packing.{number_of_bits_same}
 use Rattle.profile.proofs.bits.pack.Goals as goal
 
-start : {f : ℕ → Bool} {n : ℕ} → Packed f n 0 n
-unfolding number_of_bits
-start {n = n} = let none : n - n ≡ 0 = omega arith in record { at_most = omega arith; number = rw none }
-
-module _ {f : ℕ → Bool} {n x i : ℕ} (s : Packed f n x i) where
-  -- one flag more, with its number b
-  turn : {b : ℕ} → 0 < i → b ≡ cond (f (i - 1)) 1 0 → Packed f n (2 * x + b) (i - 1)
-  unfolding number_of_bits
-  turn l is =
+-- one bit more
+module _ {n i x : ℕ} (l : 0 < i) (u : i ≤ n) where
+  below : (b : Bool) → x < 2 ^ (n - i) → 2 * x + bool_byte b < 2 ^ (n - (i - 1))
+  below b s =
       let more : n - (i - 1) ≡ suc (n - i) = omega arith in
-      let low = ap {B = ℕ} (λ m. cond (f m) 1 0) (add-zero (i - 1)) in
+      rw more (grind (arith, pow-succ' 2 (n - i)))
+
+  fits : (b : Bool) → x < 2 ^ (n - i) → n ≤ 64 → 2 * x + bool_byte b < 2 ^ 64
+  fits b s w = omega (arith, below b s, pow-le-pow_right {n = 2} (omega arith) {i = n - (i - 1)} {j = 64} (omega arith))
+
+  number : {b : Bool} (f : ℕ → Bool) → x ≡ number_of_bits (n - i) (λ j. f (i + j)) → b ≡ f (i - 1)
+      → 2 * x + bool_byte b ≡ number_of_bits (n - (i - 1)) (λ j. f (i - 1 + j))
+  unfolding number_of_bits
+  number {b} f s is =
+      let more : n - (i - 1) ≡ suc (n - i) = omega arith in
+      let low : b ≡ f (i - 1 + 0) = is ∙ ap f (omega arith) in
       let rest = number_of_bits_same (n - i) (λ j. f (i + j)) (λ j. f (i - 1 + suc j)) (λ j h. ap f (omega arith)) in
-      record { at_most = omega arith; number = rw more (omega (arith, s.number)) }
+      rw (more, ← low) (grind (arith, s, rest))
 
-  -- x has n bits at most
-  below : (w : ℕ) → n ≤ w → x < 2 ^ w
-  below w l =
-      let small = number_of_bits_below (n - i) (λ j. f (i + j)) in
-      omega (arith, s.number, pow-le-pow_right {n = 2} (omega arith) {i = n - i} {j = w} (omega arith))
-
-pub loop-i-init : goal.loop-i-init
-loop-i-init c = start
+-- and at the end all of them are packed
+end : (n i x : ℕ) (f : ℕ → Bool) → i ≡ 0 → x ≡ number_of_bits (n - i) (λ j. f (i + j)) → x ≡ number_of_bits n f
+end n i x f none s =
+    let all : n - i ≡ n = omega arith in
+    rw all at s ∙ number_of_bits_same n (λ j. f (i + j)) f (λ j h. ap f (omega arith))
 
 pub overflow_mul-x : goal.overflow_mul-x
-overflow_mul-x c = omega (arith, below (turn c.loop-i.invariant c.loop-i-test.true refl) 64 c.requires)
+overflow_mul-x g c = omega (arith, fits c.loop-i-test.true c.loop-i.auto.i false c.loop-i.invariant.below c.requires.few)
 
 pub loop-i-preserved : goal.loop-i-preserved
-loop-i-preserved c = turn c.loop-i.invariant c.loop-i-test.true c.one.ensures
+loop-i-preserved g c =
+    let s = c.loop-i.invariant in
+    let i = c.loop-i-test.true in
+    let n = c.loop-i.auto.i in
+    rw c.from.ensures
+    record {
+      below = below i n c.test.result s.below;
+      number = λ f h. number i n f (s.number f h) (h (c.loop-i.i - 1) c.test.result (omega arith) c.test.ensures);
+    }
 
 pub overflow_add-x : goal.overflow_add-x
-overflow_add-x c = record { fits = below (turn c.loop-i.invariant c.loop-i-test.true c.one.ensures) 64 c.requires }
+overflow_add-x g c =
+    record { fits = rw c.from.ensures (fits c.loop-i-test.true c.loop-i.auto.i c.test.result c.loop-i.invariant.below c.requires.few) }
+
+pub returns-clause-bits : goal.returns-clause-bits
+returns-clause-bits g c = λ f h. end _ _ _ f (omega arith) (c.loop-i.invariant.number f h)

@@ -1,0 +1,20 @@
+-- What each event makes of the value is entered, one after the other. The loop keeps that what the events from a on make of the entries so
+-- far is the whole table.
+use Rattle.closing.proofs.Filling.{passed_on, events_cut, events_next, events_done}
+use Rattle.closing.proofs.table.by_events.Goals as goal
+
+pub returns-in_err-count-clause-fills : goal.returns-in_err-count-clause-fills
+returns-in_err-count-clause-fills g c =
+    passed_on _ c.from_residual.ensures
+    (events_cut g.met.R.Rows.layout _ c.loop-a.invariant.stands c.loop-a-test.true c.next-value.ensures (c.in_err-count.ensures.fills _))
+
+pub loop-a-preserved : goal.loop-a-preserved
+loop-a-preserved g c =
+    record {
+      stands =
+          events_next g.met.R.Rows.layout _ c.loop-a.invariant.stands c.loop-a-test.true c.next-value.ensures (c.in_ok-count.ensures.fills _);
+      same = g.met.R.Rows.chained _ _ _ c.enter.ensures.same c.loop-a.invariant.same;
+    }
+
+pub returns-clause-fills : goal.returns-clause-fills
+returns-clause-fills g c = events_done g.met.R.Rows.layout _ c.loop-a.invariant.stands c.loop-a-test.false

@@ -1,9 +1,0 @@
--- Both bits are read as they stand.
-use mathlib.Core.Path.{ap₂}
-use mathlib.Core.Bool.{◌&&◌}
-use Rattle.laws.specs.Bits.{cell}
-use Rattle.profile.proofs.steps.Goals as goal
-
-pub returns : goal.returns
-unfolding cell
-returns c = ap₂ ◌&&◌ c.has.ensures c.has-2.ensures
