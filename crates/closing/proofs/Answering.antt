@@ -14,7 +14,7 @@ use Rattle.laws.proofs.Theorems.{sets_close, profiles_close}
 use Rattle.laws.proofs.Answered.{Whole, closing_refused, closing_listed, closing_whole}
 use Rattle.model.specs.Asked.{asked}
 use Rattle.model.specs.declared.checked.Checked.{Checked}
-use Rattle.closing.specs.Rows.{machine_of}
+use Rattle.model.specs.Lent.{machine_of}
 use Rattle.closing.specs.Memory.{Fills}
 use Rattle.closing.specs.Closing.{Closed, Closing, due}
 use Rattle.closing.proofs.SetTable.{set_layout}

@@ -26,6 +26,10 @@ use Rattle.closing.specs.Rows.{Layout}
 use Rattle.closing.specs.Memory.{going, Fills}
 use Rattle.closing.specs.declared.table.Full.{Full}
 
+-- what `?` passes on
+pub passed_on : {A E : Type 0} (r : Result A E) {e : E} → IsErr r × IsErrAnd r (λ y. y ≡ e) → r ≡ Err e
+passed_on r h = let (y, is, same) = err_from_is_err_and r h.1 in is ∙ ap Err same
+
 -- a list of no entries
 no_entries : {Value : Type 0} {es : List (Entry Value)} → length es ≡ 0 → es ≡ []
 no_entries {es = []} h = refl
@@ -69,11 +73,6 @@ module _ {Value Slices : Type 0} {write : List (Entry Value) → Slices → Slic
       → Fills write room whole old now (Err full)
   stopped f still = rw (still (sym f.cut)) f
 
-  -- as it is passed on
-  pub passed_on : (answer : Result ℕ Full) {full : Full} → IsErr answer × IsErrAnd answer (λ e. e ≡ full)
-      → Fills write room t old now (Err full) → Fills write room t old now answer
-  passed_on answer h f = let p = err_from_is_err_and answer h.1 in rw (p.1, p.2) f
-
   module _ {n : ℕ} (f : Fills write room t old now (Ok n)) where
     -- where it did not, a loop goes on
     uncut : t ≡ going t.entries
@@ -81,6 +80,12 @@ module _ {Value Slices : Type 0} {write : List (Entry Value) → Slices → Slic
 
     pub goes : Going write room old now n t.entries
     goes = record { slices = f.slices; count = f.count; cut = refl; within = f.within }
+
+-- what is filled where a loop ends is what the lent rows hold then
+pub at_the_end : {Value Slices Rows : Type 0} (slices : Rows → Slices) {write : List (Entry Value) → Slices → Slices} {room : ℕ} {t : Table Value}
+    {old : Slices} {x y : Rows} {answer : Result ℕ Full} → Fills write room t old (slices x) answer → y ≡ x
+    → Fills write room t old (slices y) answer
+at_the_end slices f e = rw e f
 
 -- THE LOOP OVER EVENTS, at event a of k: what the events from a on make of the entries so far is the whole table
 pub record ByEvents {Value Slices : Type 0} (Val : WordValue Value) (write : List (Entry Value) → Slices → Slices) (room i : ℕ)

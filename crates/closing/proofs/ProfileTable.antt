@@ -1,12 +1,11 @@
 -- The table of profiles: what an event makes of a profile, and, for those who read them, its four slices.
 use Prim.Native.Nat.{ℕ}
-use mathlib.Core.Path.{◌≡◌, refl, ap, ◌∙◌}
+use mathlib.Core.Path.{◌≡◌, ap, ◌∙◌}
 use Rattle.std.specs.Prelude.{Option as Maybe, Some, None}
 use Rattle.laws.specs.Model.{Machine}
 use Rattle.laws.specs.Profiles.{join, event_profile, next_profile, profile_value}
 use Rattle.profile.specs.Values as code
 use Rattle.profile.specs.declared.Profile as declared
-use Rattle.closing.specs.Rows.{so_far}
 pub use Rattle.closing.specs.ProfileRows.{still_room, room_lent, profile_layout}
 
 -- WHAT AN EVENT MAKES of the profile of what was read so far
@@ -15,8 +14,3 @@ pub next_value_is : (M : Machine ℕ) (a : ℕ) (x : Maybe declared.Profile) {ev
 unfolding profile_value next_profile
 next_value_is M a None e h = h ∙ e
 next_value_is M a (Some t) e h = h ∙ ap (join 8 (code.profile t)) e
-
--- what was read so far, said of any values
-pub before_is : (x : Maybe declared.Profile) → code.before x ≡ so_far code.profile x
-before_is None = refl
-before_is (Some t) = refl

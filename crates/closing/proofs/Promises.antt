@@ -14,7 +14,12 @@ use Rattle.laws.proofs.Over.{written}
 use Rattle.model.specs.Asked.{asked}
 use Rattle.model.specs.declared.Model.{Model}
 use Rattle.closing.specs.Memory.{SetsLent, ProfilesLent}
-use Rattle.closing.specs.Closing.{Closed, Closing, due}
+use Rattle.std.specs.Prelude.{Result, Ok, Err}
+use Rattle.model.specs.Numbers.{number_of}
+use Rattle.model.proofs.Numbers.{some_number, one_number}
+use Rattle.closing.specs.declared.Complete.{Complete}
+use Rattle.closing.specs.declared.Refused.{Refused}
+use Rattle.closing.specs.Closing.{Closed, told, Closing, due}
 use Rattle.closing.proofs.SetTable as of_sets
 use Rattle.closing.proofs.ProfileTable as of_profiles
 
@@ -23,6 +28,22 @@ same_answer : (a b : Closed) → a.number ≡ b.number → a.sets ≡ b.sets →
 same_answer a b n s p =
     ap (λ x. record { number = x; sets = a.sets; profiles = a.profiles }) n
     ∙ ap₂ (λ x y. record { number = b.number; sets = x; profiles = y }) s p
+
+-- no two answers of the call tell the same
+pub same_refused : (x y : Refused) → number_of x.refusal ≡ number_of y.refusal → x.sets ≡ y.sets → x.profiles ≡ y.profiles → x ≡ y
+same_refused x y r s p =
+    ap (λ r. record { refusal = r; sets = x.sets; profiles = x.profiles }) (one_number x.refusal y.refusal r)
+    ∙ ap₂ (λ m n. record { refusal = y.refusal; sets = m; profiles = n }) s p
+
+told_once : (a b : Result Complete Refused) → told a ≡ told b → a ≡ b
+told_once a b e = go a b (ap (λ t. t.number) e) (ap (λ t. t.sets) e) (ap (λ t. t.profiles) e)
+  where
+    go : (a b : Result Complete Refused) → (told a).number ≡ (told b).number → (told a).sets ≡ (told b).sets
+        → (told a).profiles ≡ (told b).profiles → a ≡ b
+    go (Ok x) (Ok y) n s p = ap₂ (λ k l. Ok (record { sets = k; profiles = l })) s p
+    go (Ok x) (Err y) n s p = absurd (some_number y.refusal (sym n))
+    go (Err x) (Ok y) n s p = absurd (some_number x.refusal n)
+    go (Err x) (Err y) n s p = ap Err (same_refused x y n s p)
 
 -- CLOSING reads only the first k numbers of arrows: with k there, no other matters
 pub first_k_only : (m : Model) (arrows other : List ℕ) (S : SetSlices) (T : ProfileSlices) → m.k ≤ length arrows → m.k ≤ length other
@@ -41,6 +62,11 @@ module _ {m : Model} {arrows : List ℕ} {S S' : SetSlices} {T T' : ProfileSlice
     c.set_slices_are ∙ sym d.set_slices_are,
     c.profile_slices_are ∙ sym d.profile_slices_are,
   )
+
+  -- and so has the call, of which it is told
+  pub one_answer : {a b : Result Complete Refused} {S'' : SetSlices} {T'' : ProfileSlices} → answer ≡ told a
+      → Closing m arrows S S'' T T'' (told b) → a ≡ b
+  one_answer {a} {b} is d = told_once a b (sym is ∙ (one_closing d).0)
 
   -- the counts are within the rooms
   pub sets_within : answer.sets ≤ room_for_sets eight S

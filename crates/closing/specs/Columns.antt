@@ -1,4 +1,5 @@
--- The entries of a table in its slices: what a column holds after they were written, and the entries that are read back.
+-- The entries of a table in its slices: what a column holds after they were written, the entries that are read back, and what slices that
+-- are columns are to a table.
 use Prim.Native.Nat.{ℕ, zero, suc, ◌≤◌, ◌<◌}
 use native.Mathlib.Omega.{arith}
 use mathlib.Core.Path.{◌≡◌, refl, sym, ap, ◌∙◌}
@@ -13,6 +14,7 @@ use Rattle.laws.proofs.Places.{same_lists, element, place_below}
 use Rattle.laws.proofs.Members.{length_counted, place_counted}
 use Rattle.laws.proofs.Over.{over_again, over_length, over_at, over_same, over_set}
 use Rattle.closing.specs.Memory.{entries_in}
+use Rattle.closing.specs.Rows.{Layout}
 
 module _ {A B : Type 0} (f : A → B) where
   -- what f makes of a list stands where it was made from
@@ -89,19 +91,83 @@ module _ {Value : Type 0} (value : ℕ → Value) (from event : List ℕ) where
   unfolding entries_in
   entries_are es n h same = read_are entry_in es n h same
 
-  module _ (n : ℕ) where
-    abbrev entries : List (Entry Value)
-    entries = entries_in value from event n
+-- A COLUMN OF WHAT IS READ: f of what stands in each row, which is what stands in old there
+module _ {A : Type 0} (read : ℕ → A) (n : ℕ) (f : A → ℕ) (old : List ℕ) (same : (i : ℕ) → f (read i) ≡ get_or old i 0) where
+  abbrev rows : List A
+  rows = map read (counted 0 n)
 
-    entries_is : (i : ℕ) {e : Entry Value} → get_elem? entries i ≡ some e → e ≡ entry_in i
-    entries_is i at = inside (sym at ∙ entries_at n i (omega (arith, place_below entries i at, entries_length n)))
+  rows_length : length rows ≡ n
+  rows_length = simp (length-map, length_counted)
 
-    module _ (f : Entry Value → ℕ) (old : List ℕ) (same : (i : ℕ) → f (entry_in i) ≡ get_or old i 0) where
-      -- a column of what is read stands in its slice already
-      pub column_read : n ≤ length old → over (map f entries) old ≡ old
-      column_read h = column_same f entries old (omega (arith, entries_length n)) (λ i e at. ap f (entries_is i at) ∙ same i)
+  row_is : (i : ℕ) {e : A} → get_elem? rows i ≡ some e → e ≡ read i
+  row_is i at = inside (sym at ∙ place_counted read n i (omega (arith, place_below rows i at, rows_length)))
 
-      -- and that of one entry more has its number in the next place
-      pub column_next : n < length old → (e : Entry Value) → set old n (f e) ≡ over (map f (entries ++ (e ∷ []))) old
-      column_next h e =
-          rw (entries_length n) at (column_set f entries old e (column_read (omega arith)) (omega (arith, entries_length n)))
+  -- it stands in its slice already
+  pub column_read : n ≤ length old → over (map f rows) old ≡ old
+  column_read h = column_same f rows old (omega (arith, rows_length)) (λ i e at. ap f (row_is i at) ∙ same i)
+
+  -- and that of one element more has its number in the next place
+  pub column_next : n < length old → (e : A) → set old n (f e) ≡ over (map f (rows ++ (e ∷ []))) old
+  column_next h e = rw rows_length at (column_set f rows old e (column_read (omega arith)) (omega (arith, rows_length)))
+
+-- WHAT THE SLICES OF BOTH TABLES HAVE: they are columns, each of a part f of the entries. columns F is what F makes of each part and its
+-- slice, and at reads an entry from its row
+pub record Shape {Value Slices : Type 0} (write : List (Entry Value) → Slices → Slices) (at : Slices → ℕ → Entry Value) (room_for : Slices → ℕ)
+    (columns : ((Entry Value → ℕ) → List ℕ → List ℕ) → Slices → Slices) : Type 0 where
+  -- writing entries is writing the columns
+  pub written : (es : List (Entry Value)) (l : Slices) → write es l ≡ columns (λ f old. over (map f es) old) l
+  pub twice : (F G : (Entry Value → ℕ) → List ℕ → List ℕ) (l : Slices) → columns F (columns G l) ≡ columns (λ f old. F f (G f old)) l
+  pub unchanged : (l : Slices) → columns (λ f old. old) l ≡ l
+  -- F and G make the same of all if they do so of any part f and slice old in which it stands, and in which there is room
+  pub alike : (F G : (Entry Value → ℕ) → List ℕ → List ℕ) (l : Slices)
+      → ((f : Entry Value → ℕ) (old : List ℕ) → ((i : ℕ) → f (at l i) ≡ get_or old i 0) → room_for l ≤ length old → F f old ≡ G f old)
+      → columns F l ≡ columns G l
+  -- a row has the entry whose parts stand there
+  pub row : (F : (Entry Value → ℕ) → List ℕ → List ℕ) (l : Slices) (i : ℕ) (e : Entry Value)
+      → ((f : Entry Value → ℕ) (old : List ℕ) → get_or (F f old) i 0 ≡ f e) → at (columns F l) i ≡ e
+  -- the room is that of the slices, and within the limit
+  pub as_long : (F : (Entry Value → ℕ) → List ℕ → List ℕ) (l : Slices)
+      → ((f : Entry Value → ℕ) (old : List ℕ) → room_for l ≤ length old → length (F f old) ≡ length old) → room_for (columns F l) ≡ room_for l
+  pub small : (l : Slices) → room_for l ≤ 65535
+
+module _ {Value Slices : Type 0} {write : List (Entry Value) → Slices → Slices} {at : Slices → ℕ → Entry Value} {room_for : Slices → ℕ}
+    {columns : ((Entry Value → ℕ) → List ℕ → List ℕ) → Slices → Slices} (S : Shape write at room_for columns) where
+  abbrev read : Slices → ℕ → List (Entry Value)
+  read l n = map (at l) (counted 0 n)
+
+  -- one entry more, stored in the next place of each slice
+  pub next_row : (l : Slices) (n : ℕ) → n < room_for l → (e : Entry Value)
+      → columns (λ f old. set old n (f e)) l ≡ write (read l n ++ (e ∷ [])) l
+  next_row l n h e =
+      S.alike (λ f old. set old n (f e)) (λ f old. over (map f (read l n ++ (e ∷ []))) old) l
+      (λ f old same long. column_next (at l) n f old same (omega arith) e)
+      ∙ sym (S.written (read l n ++ (e ∷ [])) l)
+
+  -- THE LAYOUT
+  pub layout : Layout write read at room_for
+  layout =
+      record {
+        again =
+            λ ds es l h.
+            ap (write es) (S.written ds l) ∙ S.written es _ ∙ S.twice (λ f old. over (map f es) old) (λ f old. over (map f ds) old) l
+            ∙ S.alike (λ f old. over (map f es) (over (map f ds) old)) (λ f old. over (map f es) old) l
+            (λ f old _ _. column_again f ds es old h)
+            ∙ sym (S.written es l);
+        back =
+            λ es l.
+            rw (S.written es l)
+            (read_are _ es (length es) refl
+            (λ i e p. S.row (λ f old. over (map f es) old) l i e (λ f old. column_at f es old i p)));
+        same =
+            λ l n h.
+            S.written (read l n) l
+            ∙ S.alike (λ f old. over (map f (read l n)) old) (λ f old. old) l
+            (λ f old same long. column_read (at l) n f old same (omega arith))
+            ∙ S.unchanged l;
+        counted = λ l n. simp (length-map, length_counted);
+        each = λ l n i h. place_counted (at l) n i h;
+        room_kept =
+            λ es l h.
+            rw (S.written es l) (S.as_long (λ f old. over (map f es) old) l (λ f old long. column_length f es old (omega arith)));
+        small = S.small;
+      }

@@ -53,6 +53,11 @@ abbrev pub is_full : Result ℕ Full → Bool
 is_full (Ok n) = false
 is_full (Err full) = true
 
+-- the answer with the count that a table has
+abbrev pub counting : {A : Type 0} → ℕ → Result A Full → Result ℕ Full
+counting n (Ok x) = Ok n
+counting n (Err full) = Err full
+
 -- the table t stands in the slices, which were old and are now new: its entries and then what stood there before; answer says how many
 -- there are, and whether it is cut
 pub record Fills {Value Slices : Type 0} (write : List (Entry Value) → Slices → Slices) (room : ℕ) (t : Table Value) (old new : Slices)

@@ -1,11 +1,8 @@
--- What the code of both tables goes by, whatever their values: what slices are to a table, and how its values stand for document 01's.
-use Rattle.std.specs.Prelude.{ℕ, ◌<◌, ◌≤◌, ◌≡◌, List, length, Option as Maybe, Some, None}
-use Rattle.std.proofs.Math.Option.{Option, none, some}
+-- What the code of both tables goes by, whatever their values: what slices are to a table.
+use Rattle.std.specs.Prelude.{ℕ, ◌<◌, ◌≤◌, ◌≡◌, List, length}
+use Rattle.std.proofs.Math.Option.{some}
 use Rattle.std.proofs.Math.ListN.{get_elem?}
-use Rattle.laws.specs.Model.{Machine, machine}
 use Rattle.laws.specs.Tables.{Entry}
-use Rattle.model.specs.Asked.{asked}
-use Rattle.model.specs.declared.checked.Checked.{Checked}
 
 -- WHAT SLICES ARE TO A TABLE: write puts entries into the first rows, read gives those of the first rows back, in row i stands at i, and
 -- room_for says for how many there is room
@@ -24,12 +21,3 @@ pub record Layout {Value Slices : Type 0} (write : List (Entry Value) → Slices
   pub room_kept : (es : List (Entry Value)) (l : Slices) → length es ≤ room_for l → room_for (write es l) ≡ room_for l
   -- an entry's number fits into a slice
   pub small : (l : Slices) → room_for l ≤ 65535
-
--- the value of what was read so far, as document 01's: none where it has none
-abbrev pub so_far : {A B : Type 0} → (A → B) → Maybe A → Option B
-so_far f None = none
-so_far f (Some x) = some (f x)
-
--- the machine of a model that is not refused
-abbrev pub machine_of : Checked → Machine ℕ
-machine_of m = machine 8 (asked m.model m.arrows.now)

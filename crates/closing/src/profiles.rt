@@ -3,8 +3,8 @@ ghost use Rattle.std.specs.Prelude.{◌<◌, ◌≡◌, [], ◌∷◌, ◌++◌}
 ghost use Rattle.laws.specs.Model.{eight};
 ghost use Rattle.laws.specs.Profiles.{Profile as Paper, profile_value};
 ghost use Rattle.laws.specs.Answers.{ProfileSlices, room_for_profiles, profile_slices};
-ghost use Rattle.profile.specs.Values.{profile};
-ghost use Rattle.closing.specs.Rows.{machine_of, so_far};
+ghost use Rattle.model.specs.Lent.{machine_of};
+ghost use Rattle.profile.specs.Values.{profile, so_far};
 ghost use Rattle.closing.specs.Memory.{profiles_in};
 ghost use Rattle.closing.specs.Lent.{profiles_lent, SameProfiles};
 ghost use Rattle.closing.specs.ProfileRows.{profile_at, profile_layout, profile_tells, same_profiles, same_profiles_on};

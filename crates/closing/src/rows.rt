@@ -3,7 +3,9 @@ ghost use Rattle.std.specs.Prelude.{ℕ, ◌<◌, ◌≡◌, List, [], ◌∷◌
 ghost use Rattle.laws.specs.Model.{Machine};
 ghost use Rattle.laws.specs.Tables.{WordValue};
 ghost use Rattle.laws.specs.Tables as tables;
-ghost use Rattle.closing.specs.Rows.{Layout, machine_of, so_far};
+ghost use Rattle.model.specs.Lent.{machine_of};
+ghost use Rattle.profile.specs.Values.{so_far};
+ghost use Rattle.closing.specs.Rows.{Layout};
 
 use model::Checked;
 

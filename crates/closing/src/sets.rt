@@ -3,7 +3,8 @@ ghost use Rattle.std.specs.Prelude.{ℕ, ◌<◌, ◌≡◌, [], ◌∷◌, ◌+
 ghost use Rattle.laws.specs.Model.{eight};
 ghost use Rattle.laws.specs.Profiles.{set_value};
 ghost use Rattle.laws.specs.Answers.{SetSlices, room_for_sets, set_slices};
-ghost use Rattle.closing.specs.Rows.{machine_of, so_far};
+ghost use Rattle.model.specs.Lent.{machine_of};
+ghost use Rattle.profile.specs.Values.{so_far};
 ghost use Rattle.closing.specs.Memory.{sets_in};
 ghost use Rattle.closing.specs.Lent.{sets_lent, SameSets};
 ghost use Rattle.closing.specs.SetRows.{set_at, set_layout, set_tells, same_sets, same_sets_on};

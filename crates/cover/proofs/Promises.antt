@@ -1,7 +1,7 @@
 -- WHAT FOLLOWS FROM THE CONTRACT OF THE VERDICT: no second result meets it, and what is past u and v stays as it was.
 use Prim.Native.Nat.{ℕ, ◌+◌, ◌≤◌}
 use native.Mathlib.Omega.{arith}
-use mathlib.Core.Path.{◌≡◌, refl, sym, ap, ap₂, ◌∙◌}
+use mathlib.Core.Path.{◌≡◌, refl, sym, ap, ◌∙◌}
 use mathlib.Core.Logic.{⊎_elim}
 use mathlib.Core.List.{List}
 use mathlib.Core.Option.{some}
@@ -19,11 +19,10 @@ use Rattle.model.specs.Asked.{asked}
 use Rattle.model.specs.declared.Model.{Model}
 use Rattle.closing.specs.Closing.{due}
 use Rattle.closing.specs.declared.Refused.{Refused}
-use Rattle.closing.proofs.Promises.{first_k_only, one_closing}
+use Rattle.closing.proofs.Promises.{first_k_only, one_closing, same_refused}
 use Rattle.cover.specs.Verdicts.{told, tells, given, GivesVerdict, due as verdict_due}
 use Rattle.cover.specs.declared.answer.Answer.{Answer}
 use Rattle.cover.specs.declared.answer.Answer.TheVariants.{Covered, Uncovered}
-use Rattle.model.proofs.Numbers.{one_number}
 use Rattle.cover.proofs.Verdicts.{given_is}
 
 -- THE VERDICT reads only the first k numbers of arrows, as closing does
@@ -32,12 +31,6 @@ pub verdict_first_k : (m : Model) (arrows other : List ℕ) (S : SetSlices) (T :
 unfolding verdict_in verdict_answer closing_in
 verdict_first_k m arrows other S T memory here there same =
     ap (λ c. verdict_from 8 c (length memory)) (first_k_only m arrows other S T here there same)
-
--- a refusal with its counts is these three
-one_refusal : (x y : Refused) → x.refusal ≡ y.refusal → x.sets ≡ y.sets → x.profiles ≡ y.profiles → x ≡ y
-one_refusal x y r s p =
-    ap (λ n. record { refusal = n; sets = x.sets; profiles = x.profiles }) r
-    ∙ ap₂ (λ n k. record { refusal = y.refusal; sets = n; profiles = k }) s p
 
 -- no two answers tell the same
 told_once : (a b : Result Answer Refused) → told a ≡ told b → a ≡ b
@@ -56,7 +49,7 @@ told_once a b e =
     go (Ok (Uncovered s p u v)) (Err y) c n g h i j = cc
     go (Err x) (Ok (Covered t q)) c n g h i j = cc
     go (Err x) (Ok (Uncovered t q w y)) c n g h i j = cc
-    go (Err x) (Err y) c n g h i j = ap Err (one_refusal x y (one_number _ _ n) g h)
+    go (Err x) (Err y) c n g h i j = ap Err (same_refused x y n g h)
 
 -- of the tables that closing gives with number 0, u has at most 255 letters and v at most 2,048
 short : (m : Model) (arrows : List ℕ) (S : SetSlices) (T : ProfileSlices) → (due m arrows S T).number ≡ 0

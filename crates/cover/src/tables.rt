@@ -33,15 +33,12 @@ impl<'s> Sets<'s> {
         requires linked { Linked (take count lent.now.from.now) (take count lent.now.event.now) }
         ensures { sets_viewed result ≡ first_sets count (sets_lent lent.now) }
     {
-        let masks = &*lent.masks;
-        let from = &*lent.from;
-        let event = &*lent.event;
+        let masks = &lent.masks[..count];
+        let from = &lent.from[..count];
+        let event = &lent.event[..count];
         Sets {
-            masks: &masks[..count],
-            links: Links {
-                from: &from[..count],
-                event: &event[..count],
-            },
+            masks,
+            links: Links { from, event },
         }
     }
 }
@@ -67,17 +64,14 @@ impl<'s> Profiles<'s> {
         requires linked { Linked (take count lent.now.from.now) (take count lent.now.event.now) }
         ensures { profiles_viewed result ≡ first_profiles count (profiles_lent lent.now) }
     {
-        let arrows = &*lent.arrows;
-        let marks = &*lent.marks;
-        let from = &*lent.from;
-        let event = &*lent.event;
+        let arrows = &lent.arrows[..count];
+        let marks = &lent.marks[..count];
+        let from = &lent.from[..count];
+        let event = &lent.event[..count];
         Profiles {
-            arrows: &arrows[..count],
-            marks: &marks[..count],
-            links: Links {
-                from: &from[..count],
-                event: &event[..count],
-            },
+            arrows,
+            marks,
+            links: Links { from, event },
         }
     }
 }

@@ -2,23 +2,25 @@
 -- end, and the four fields before the events, of which the first that has a fault decides.
 use Prim.Native.Nat.{ℕ, suc, ◌+◌, ◌/◌, ◌%◌, ◌<◌, ◌≤◌}
 use native.Mathlib.Omega.{arith}
-use mathlib.Core.Path.{◌≡◌, refl, ◌∙◌}
+use mathlib.Core.Path.{◌≡◌, refl, sym, ◌∙◌}
 use mathlib.Core.Bool.{Bool, true, false, and_assoc, and-false}
-use mathlib.Core.List.{List, [], ◌∷◌}
+use mathlib.Core.List.{List, [], ◌∷◌, ◌++◌}
 use lib.ListN.{length, take, drop}
 use lib.Seq.{drop-cons}
 use lib.Pointwise.{pointwise}
 use lib.Dec.{eqb, leb}
 use borrow.Author.Tests.{lt-ltb, le-ltb}
-use Rattle.std.specs.Prelude.{Result, Ok, Err}
-use Rattle.laws.specs.Refusals.{Stopped, outside}
+use Rattle.std.specs.Prelude.{Result, Ok, Err, IsErrAnd}
+use Rattle.std.proofs.lemmas.Result.{err_from_is_err_and}
+use Rattle.laws.specs.Refusals.{Stopped, fault, outside}
 use Rattle.laws.specs.File.{head, byte, stand_from, formed, value, number_checks, mask_checks, front_checks}
 use Rattle.laws.proofs.Checks.{passed_check, stopped_check, passed_shown, shows_field}
 use Rattle.laws.proofs.Unrefused.{in_range}
-use Rattle.model.specs.Fields.{IsField}
+use Rattle.model.specs.Fields.{IsField, form_checks}
 use Rattle.model.specs.Reader.{FrontRead, FrontRefused}
 use Rattle.model.specs.Numbers.{number_of}
 use Rattle.model.specs.declared.refusals.Fault.{Fault}
+use Rattle.model.specs.declared.refusals.Refusal.{Refusal}
 use Rattle.model.specs.declared.refusals.Refusal.TheVariants.{FewArrows}
 
 -- a length of two bytes is its low and its high byte
@@ -52,6 +54,28 @@ module _ (bytes : List ℕ) where
     pub formed_whole : b ≡ true → leb (o + 3 + size) (length bytes) ≡ formed bytes o tag size
     unfolding formed
     formed_whole t = rw (← head_bytes tag size l, ← e, t)
+
+-- A FIELD OF ONE BYTE whose form is read first, and of whose value it is then asked whether that is refused
+module _ (file : List ℕ) (o tag : ℕ) (refusal : Refusal) (wrong : ℕ → Bool) where
+  abbrev IsByte : Result ℕ Fault → Type 0
+  IsByte = IsField 8 (form_checks file o tag) (value file o)
+
+  abbrev IsAsked : Result ℕ Fault → Type 0
+  IsAsked = IsField 8 (form_checks file o tag ++ fault (number_of refusal) o (wrong (value file o)) ∷ []) (value file o)
+
+  pub byte_misformed : (f : Fault) → IsByte (Err f) → (r : Result ℕ Fault) → IsErrAnd r (λ e. e ≡ f) → IsAsked r
+  byte_misformed f s r h = let (e, is, same) = err_from_is_err_and r h in rw (is, same) (λ rest. s _)
+
+  module _ {x : ℕ} (byte : IsByte (Ok x)) where
+    pub byte_wrong : true ≡ wrong x → IsAsked (Err (record { refusal = refusal; offset = o }))
+    byte_wrong t rest =
+        let (passed, (same, _)) = byte in
+        passed _ ∙ stopped_check (number_of refusal) o (rw (← same) (sym t)) rest
+
+    pub byte_right : false ≡ wrong x → IsAsked (Ok x)
+    byte_right f =
+        let (passed, (same, small)) = byte in
+        (λ rest. passed _ ∙ passed_check (number_of refusal) o (rw (← same) (sym f)) rest, (same, small))
 
 -- a number that was read is at most its limit
 pub number_most : (file : List ℕ) (o tag limit x : ℕ) → IsField 8 (number_checks file o tag limit) (value file o) (Ok x) → x ≤ limit

@@ -3,8 +3,6 @@ ghost use Rattle.std.specs.Prelude.{◌≤◌, ◌≡◌, length, take};
 ghost use Rattle.laws.specs.Bits.{some_of};
 ghost use Rattle.laws.specs.Refusals.{mask_beyond, arrows_beyond, outside};
 
-use crate::Model;
-
 // x is outside 1 to most.
 pub fn is_outside(most: usize, x: usize) -> bool
     ensures { result ≡ outside most x }
@@ -13,22 +11,30 @@ pub fn is_outside(most: usize, x: usize) -> bool
 }
 
 // A row of bits has one for a state n or above.
-pub fn row_beyond(n: usize, row: u64) -> bool
+pub fn row_beyond(n: usize, row: u8) -> bool
     requires { n ≤ 8 }
     ensures { result ≡ mask_beyond n row }
 {
-    0 < row >> n
+    0 < u64::from(row) >> n
 }
 
-// An event's arrows have a bit for p and q where p or q is n or above.
+// Some mask has a bit for a state n or above.
+pub fn some_mask_beyond(n: usize, masks: &[u8]) -> bool
+    requires { n ≤ 8 }
+    ensures { result ≡ some_of (mask_beyond n) masks.now }
+{
+    masks.iter().any(|mask| row_beyond(n, *mask))
+}
+
+// An event's arrows have a bit for p and q where p or q is n or above: any bit behind the first n rows, or in one of these a bit for a
+// state n or above.
 fn beyond(n: usize, arrows: u64) -> bool
     requires { n ≤ 8 }
     ensures { result ≡ arrows_beyond 8 n arrows }
 {
-    if n < Model::STATES && 0 < arrows >> (Model::STATES * n) {
-        return true;
-    }
-    (0..n).any(|p| row_beyond(n, (arrows >> (Model::STATES * p)) % 256))
+    let rows = arrows.to_le_bytes();
+    let (first, others) = rows.split_at(n);
+    some_mask_beyond(0, others) || some_mask_beyond(n, first)
 }
 
 // One of the first k events has such arrows.

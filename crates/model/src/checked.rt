@@ -27,8 +27,8 @@ impl Model {
         if arrows.len() < self.k {
             return Err(Refusal::FewArrows);
         }
-        if bounds::row_beyond(self.n, self.start as u64)
-            || bounds::row_beyond(self.n, self.home as u64)
+        if bounds::row_beyond(self.n, self.start)
+            || bounds::row_beyond(self.n, self.home)
             || bounds::some_beyond(self.n, self.k, arrows)
         {
             return Err(Refusal::MissingState);

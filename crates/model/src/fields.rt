@@ -1,11 +1,10 @@
 // The fields of a model file, each read at the offset where it must begin: its value, or its fault.
 ghost use Rattle.std.specs.Prelude.{◌+◌, ◌≤◌, ◌<◌, ◌≡◌, length};
-ghost use Rattle.laws.specs.Bits.{from_rows, some_of};
-ghost use Rattle.laws.specs.Refusals.{mask_beyond};
+ghost use Rattle.laws.specs.Bits.{from_rows};
 ghost use Rattle.laws.specs.File.{offset_of_event, stand_from, formed, value, masks, number_checks, mask_checks, event_checks, end_checks};
 ghost use Rattle.model.specs.Fields.{IsField, form_checks};
 
-use crate::bounds::{is_outside, row_beyond};
+use crate::bounds::{is_outside, row_beyond, some_mask_beyond};
 use crate::{Fault, Model, Refusal};
 
 // The tags of the fields before the end field.
@@ -25,8 +24,8 @@ const HEAD: usize = 3;
 // The end field is a head and nothing behind it, byte for byte.
 const END: [u8; 3] = [0x7F, 0x00, 0x00];
 
-// The value of a field, or its fault.
-pub type Field = Result<u64, Fault>;
+// The value of a field, a byte or an event's arrow number, or its fault.
+pub type Field<T> = Result<T, Fault>;
 
 // From an offset on stand exactly these bytes.
 fn stand_at(file: &[u8], at: usize, bytes: [u8; 3]) -> bool
@@ -47,45 +46,36 @@ fn is_formed(file: &[u8], at: usize, tag: u8, size: usize) -> bool
 }
 
 // The byte of a field of one byte.
-fn byte_at(file: &[u8], at: usize, tag: u8) -> Field
+fn byte_at(file: &[u8], at: usize, tag: u8) -> Field<u8>
     requires { at ≤ 65535 }
     ensures { IsField 8 (form_checks file.now at tag) (value file.now at) result }
 {
     if !is_formed(file, at, tag, 1) {
-        return Err(Fault {
-            refusal: Refusal::BrokenForm,
-            offset: at,
-        });
+        return Err(Refusal::BrokenForm.at(at));
     }
-    Ok(file[at + HEAD] as u64)
+    Ok(file[at + HEAD])
 }
 
 // A field of one byte that holds a number from 1 to `most`.
-pub fn number_at(file: &[u8], at: usize, tag: u8, most: usize) -> Field
+pub fn number_at(file: &[u8], at: usize, tag: u8, most: usize) -> Field<u8>
     requires { at ≤ 65535 }
     ensures { IsField 8 (number_checks file.now at tag most) (value file.now at) result }
 {
     let number = byte_at(file, at, tag)?;
     if is_outside(most, number as usize) {
-        return Err(Fault {
-            refusal: Refusal::OutsideRange,
-            offset: at,
-        });
+        return Err(Refusal::OutsideRange.at(at));
     }
     Ok(number)
 }
 
 // A field of one byte that holds a mask of n states.
-pub fn mask_at(file: &[u8], at: usize, tag: u8, n: usize) -> Field
+pub fn mask_at(file: &[u8], at: usize, tag: u8, n: usize) -> Field<u8>
     requires { (at ≤ 65535) × (n ≤ 8) }
     ensures { IsField 8 (mask_checks file.now at tag n) (value file.now at) result }
 {
     let mask = byte_at(file, at, tag)?;
     if row_beyond(n, mask) {
-        return Err(Fault {
-            refusal: Refusal::MissingState,
-            offset: at,
-        });
+        return Err(Refusal::MissingState.at(at));
     }
     Ok(mask)
 }
@@ -96,14 +86,6 @@ pub fn event_offset(n: usize, a: usize) -> usize
     ensures { (result ≡ offset_of_event n a) × (result ≤ 208) }
 {
     16 + a * (n + 4)
-}
-
-// Some mask has a bit for a state n or above.
-fn some_mask_beyond(n: usize, masks: &[u8]) -> bool
-    requires { n ≤ 8 }
-    ensures { result ≡ some_of (mask_beyond n) masks.now }
-{
-    masks.iter().any(|mask| row_beyond(n, *mask as u64))
 }
 
 // The masks as one number, mask p in row p.
@@ -117,43 +99,31 @@ fn packed(masks: &[u8]) -> u64
 }
 
 // The field of event a: its arrow number.
-pub fn event_at(file: &[u8], n: usize, a: usize) -> Field
+pub fn event_at(file: &[u8], n: usize, a: usize) -> Field<u64>
     requires { (n ≤ 8) × (a < 16) }
     ensures { IsField 64 (event_checks file.now n a) (from_rows 8 (masks file.now n a)) result }
 {
     let at = event_offset(n, a);
     if !is_formed(file, at, TAG_EVENT, n + 1) || file[at + HEAD] as usize != a {
-        return Err(Fault {
-            refusal: Refusal::BrokenForm,
-            offset: at,
-        });
+        return Err(Refusal::BrokenForm.at(at));
     }
     let masks = &file[at + 4..at + 4 + n];
     if some_mask_beyond(n, masks) {
-        return Err(Fault {
-            refusal: Refusal::MissingState,
-            offset: at,
-        });
+        return Err(Refusal::MissingState.at(at));
     }
     Ok(packed(masks))
 }
 
 // The end field, behind which nothing follows.
-pub fn end_at(file: &[u8], at: usize) -> Field
+pub fn end_at(file: &[u8], at: usize) -> Field<u64>
     requires { at ≤ 65535 }
     ensures { IsField 8 (end_checks file.now at) 0 result }
 {
     if !stand_at(file, at, END) {
-        return Err(Fault {
-            refusal: Refusal::BrokenForm,
-            offset: at,
-        });
+        return Err(Refusal::BrokenForm.at(at));
     }
     if at + HEAD < file.len() {
-        return Err(Fault {
-            refusal: Refusal::BrokenForm,
-            offset: at + HEAD,
-        });
+        return Err(Refusal::BrokenForm.at(at + HEAD));
     }
     Ok(0)
 }

@@ -17,10 +17,7 @@ pub fn front(file: &[u8], room: usize) -> Result<Model, Fault>
         return Err(second.unwrap_err());
     };
     if room < k as usize {
-        return Err(Fault {
-            refusal: Refusal::FewArrows,
-            offset: 4,
-        });
+        return Err(Refusal::FewArrows.at(4));
     }
     let third = mask_at(file, 8, TAG_START, n as usize);
     let Ok(start) = third else {
@@ -33,7 +30,7 @@ pub fn front(file: &[u8], room: usize) -> Result<Model, Fault>
     Ok(Model {
         n: n as usize,
         k: k as usize,
-        start: start as u8,
-        home: home as u8,
+        start,
+        home,
     })
 }

@@ -24,6 +24,18 @@ impl From<Refusal> for u8 {
     }
 }
 
+impl Refusal {
+    // The fault of this refusal at an offset.
+    pub(crate) fn at(self, offset: usize) -> Fault
+        ensures { result ≡ record { refusal = self; offset = offset } }
+    {
+        Fault {
+            refusal: self,
+            offset,
+        }
+    }
+}
+
 // What is refused of a model file, and the offset of its place.
 #[derive(Clone, Copy, PartialEq, Eq)]
 pub struct Fault {

@@ -14,10 +14,11 @@ use Rattle.std.specs.List.{count_by}
 use Rattle.std.proofs.lemmas.List.Recursion.{is_count_by}
 use Rattle.laws.specs.Bits.{counted, some_of, total, count}
 use Rattle.laws.specs.Model.{Machine}
-use Rattle.laws.specs.Profiles.{Profile, same_profile, image, is_fitting, marks_a_round, is_rejecting_pair, next_profile}
+use Rattle.laws.specs.Profiles.{Profile, same_profile, leads_to, image, is_fitting, marks_a_round, is_rejecting_pair, next_profile}
 use Rattle.laws.specs.Opposite.{has_block, rejects_non_empty, second_count}
 use Rattle.laws.proofs.Booleans.{never}
 use Rattle.laws.proofs.Members.{length_counted}
+use Rattle.profile.specs.Values.{plain}
 use Rattle.opposite.specs.Tables.{remains_unmarked, is_idempotent}
 
 -- a test beside one that holds, and beside one that does not
@@ -41,6 +42,12 @@ module _ (W P : ℕ) (t : Profile) where
   pub rejects_other : is_idempotent W t ≡ false → rejects_non_empty W P t ≡ false
   unfolding is_idempotent rejects_non_empty is_rejecting_pair is_fitting
   rejects_other e = rw e (beside_false (not (eqb P 0)) (eqb (image W P t) P) (not (marks_a_round W P t)))
+
+-- the arrows of t alone lead the set where t does
+pub unmarked_by_arrows : (P : ℕ) (t : Profile)
+    → remains_unmarked 8 P t ≡ (not (eqb P 0) && (eqb (image 8 P (plain t.arrows)) P && not (marks_a_round 8 P t)))
+unfolding remains_unmarked image leads_to
+unmarked_by_arrows P t = refl
 
 -- how a test counts
 abbrev one : {A : Type 0} → (A → Bool) → A → ℕ
@@ -90,7 +97,7 @@ module _ {A : Type 0} (g : A → ℕ) (xs : List A) where
 
   module _ {whole sofar i : ℕ} (so : Adding g xs whole sofar i) where
     -- the next one, x, is added
-    pub add_next : (x : A) → drop i xs ≡ x ∷ drop (i + 1) xs → {n : ℕ} → n ≡ sofar + g x → Adding g xs whole n (i + 1)
+    pub add_next : (x : A) {j : ℕ} → drop i xs ≡ x ∷ drop j xs → {n : ℕ} → n ≡ sofar + g x → Adding g xs whole n j
     unfolding total
     add_next x next e = record { left = omega (arith, e, rw next at so.left) }
 
@@ -111,8 +118,8 @@ module _ {A : Type 0} (f : A → Bool) (xs : List A) where
 
   module _ {sofar i : ℕ} (so : Counting f xs sofar i) where
     -- the next one, x, is counted if f holds of it
-    pub count_next : (x : A) → drop i xs ≡ x ∷ drop (i + 1) xs → {b : Bool} → b ≡ f x → {n : ℕ}
-        → ((b ≡ true) × (n ≡ sofar + 1)) ⊎ ((b ≡ false) × (n ≡ sofar)) → Counting f xs n (i + 1)
+    pub count_next : (x : A) {j : ℕ} → drop i xs ≡ x ∷ drop j xs → {b : Bool} → b ≡ f x → {n : ℕ}
+        → ((b ≡ true) × (n ≡ sofar + 1)) ⊎ ((b ≡ false) × (n ≡ sofar)) → Counting f xs n j
     count_next x next e came =
         record {
           adds =

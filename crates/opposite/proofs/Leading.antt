@@ -1,22 +1,30 @@
 -- The arrows inside a block, as they are written: onto a profile, on each event, from each state, and block after block.
-use Prim.Native.Nat.{ℕ, suc, ◌+◌, ◌*◌, ◌≤◌, ◌<◌}
+use Prim.Native.Nat.{ℕ, suc, ◌+◌, ◌≤◌, ◌<◌}
 use native.Mathlib.Omega.{arith}
-use mathlib.Core.Path.{◌≡◌, refl, sym, ap, ◌∙◌}
-use mathlib.Core.Bool.{Bool, true, false}
-use mathlib.Core.Option.{Option, none, some}
+use mathlib.Core.Path.{◌≡◌, refl, sym, ap}
+use mathlib.Core.Option.{Option}
 use mathlib.Core.List.{List, [], ◌∷◌, ◌++◌, append-nil}
-use lib.ListN.{length, get_or, drop}
+use lib.ListN.{length}
+use Rattle.std.specs.Prelude.{Some, None}
 use Rattle.laws.specs.Bits.{place_of}
 use Rattle.laws.specs.Model.{Machine}
 use Rattle.laws.specs.Profiles.{Profile, same_profile, next_profile}
 use Rattle.laws.specs.Opposite.{Arrow, arrow}
-use Rattle.opposite.specs.Tables.{profiles_at, keep_by}
+use Rattle.model.specs.Lent.{machine_of}
+use Rattle.model.specs.declared.Checked.{Checked}
+use Rattle.profile.specs.declared.Profile.{Profile as Profiled}
+use Rattle.profile.specs.Values.{profile}
+use Rattle.opposite.specs.Lent.{profiles_of, shown_of}
+use Rattle.opposite.specs.Lines.{gate_lines, onto_lines, leads_lines, block_lines, left_of, First, NextBlock}
+use Rattle.opposite.specs.declared.arrows.Block.{Block}
+use Rattle.opposite.specs.declared.arrows.Blocks.{Blocks}
+use Rattle.opposite.specs.declared.arrows.Shown.{Shown}
 use Rattle.opposite.specs.Memory.{HasRoom, Adds}
 use Rattle.opposite.specs.declared.arrows.Lines.{Lines}
 use Rattle.opposite.specs.Drawing.{onto_at, leads_onward, states_from, block_at, blocks_from}
 use Rattle.opposite.proofs.Events.{each_from, from_first, from_next, from_last}
-use Rattle.opposite.proofs.Rows.{profile_at, profiles_length, kept_from, next_kept, next_fits, next_passed, none_kept}
-use Rattle.opposite.proofs.Lines.{Left, begin, room_next, write_next, left_as, all_written}
+use Rattle.opposite.proofs.Rows.{profiles_length}
+use Rattle.opposite.proofs.Lines.{Left, begin, room_next, write_next, all_written}
 
 -- TWO LISTS are all that is to be written
 module _ {all : List Arrow} {base : Lines} (room : HasRoom all base) (xs ys : List Arrow) (both : all ≡ xs ++ ys) where
@@ -33,31 +41,11 @@ module _ {all : List Arrow} {base : Lines} (room : HasRoom all base) (xs ys : Li
     pub both_written : {newer : Lines} → Adds ys new newer → Adds all base newer
     both_written second = all_written (write_next (write_next (begin room) xs ys both first) ys [] (sym (append-nil ys)) second) refl
 
--- ONTO A PROFILE
-module _ (ts : List Profile) (y : Profile) {r : ℕ} (at : r ≡ place_of (same_profile y) ts) (gate : ℕ) (t : Profile) (p a : ℕ)
-    {same : Bool} (is : same ≡ same_profile y t) where
-  -- where it is the profile of the block there is an arrow to the gate too
-  pub onto_two : same ≡ true → onto_at ts gate t p a y ≡ (arrow p a gate ∷ []) ++ (arrow p a (gate + 1 + r) ∷ [])
-  unfolding onto_at
-  onto_two e =
-      let holds : same_profile y t ≡ true = sym is ∙ e in
-      rw (holds, at)
-
-  -- and else only the one to its state
-  pub onto_one : same ≡ false → onto_at ts gate t p a y ≡ (arrow p a (gate + 1 + r) ∷ [])
-  unfolding onto_at
-  onto_one e =
-      let fails : same_profile y t ≡ false = sym is ∙ e in
-      rw (fails, at)
-
-  -- so behind the arrow to the gate, if there is one, that to the state is left
-  module _ {base : Lines} (room : HasRoom (onto_at ts gate t p a y) base) where
-    pub gate_written : same ≡ true → {new : Lines} → Adds (arrow p a gate ∷ []) base new
-        → Left (onto_at ts gate t p a y) base new (arrow p a (gate + 1 + r) ∷ [])
-    gate_written e = write_next (begin room) _ _ (onto_two e)
-
-    pub gate_passed : same ≡ false → Left (onto_at ts gate t p a y) base base (arrow p a (gate + 1 + r) ∷ [])
-    gate_passed e = left_as (begin room) (onto_one e)
+-- ONTO A PROFILE: to the gate, if it is that of the block, and then to its state
+pub onto_both : (b : Block) (p a : ℕ) (y : Profiled) {r : ℕ} → r ≡ place_of (same_profile (profile y)) (profiles_of b.profiles)
+    → onto_lines b p a y ≡ gate_lines b p a y ++ (arrow p a (b.gate + 1 + r) ∷ [])
+unfolding onto_at
+onto_both b p a y at = rw at
 
 -- ON EACH EVENT
 module _ (W : ℕ) (M : Machine ℕ) (k : ℕ) (ts : List Profile) (gate : ℕ) (t : Profile) (p : ℕ) (x : Option Profile) where
@@ -79,126 +67,95 @@ module _ (W : ℕ) (M : Machine ℕ) (k : ℕ) (ts : List Profile) (gate : ℕ) 
   leads_last a h = from_last k (λ b. onto_at ts gate t p b (next_profile W M x b)) a h
 
 -- FROM EACH STATE of a block
-module _ (W : ℕ) (M : Machine ℕ) (k : ℕ) (ts : List Profile) (gate : ℕ) (t : Profile) where
+module _ (m : Checked) (b : Block) where
+  -- what is left to write of the states of the profiles xs, the first of which is number i
+  abbrev states_left : ℕ → List Profile → List Arrow
+  states_left i xs = states_from 8 (machine_of m) m.model.k (profiles_of b.profiles) b.gate (profile b.profile) (b.gate + 1 + i) xs
+
   abbrev of_gate : List Arrow
-  of_gate = leads_onward W M k ts gate t gate none
+  of_gate = leads_lines m b b.gate None
 
   abbrev of_states : List Arrow
-  of_states = states_from W M k ts gate t (gate + 1) ts
+  of_states = states_left 0 (profiles_of b.profiles)
 
-  -- what is left to write from state number i on
-  abbrev states_left : ℕ → List Arrow
-  states_left i = states_from W M k ts gate t (gate + 1 + i) (drop i ts)
-
-  abbrev pub StatesLeading : Lines → Lines → ℕ → Type 0
-  StatesLeading base new i = Left of_states base new (states_left i)
+  -- WHAT A TURN KEEPS: these profiles are the last of the block's, and their states are left to write
+  pub record StatesLeading (base new : Lines) (i : ℕ) (xs : List Profile) : Type 0 where
+    pub long : i + length xs ≡ length b.profiles.arrows.now
+    pub writing : Left of_states base new (states_left i xs)
 
   -- the gate comes first
-  gate_first : block_at W M k ts gate t ≡ of_gate ++ of_states
+  gate_first : block_lines m b ≡ of_gate ++ of_states
   unfolding block_at
-  gate_first = refl
+  gate_first =
+      let same : b.gate + 1 + 0 ≡ b.gate + 1 = omega arith in
+      rw same
 
-  module _ {lent : Lines} (room : HasRoom (block_at W M k ts gate t) lent) where
+  module _ {lent : Lines} (room : HasRoom (block_lines m b) lent) where
     pub gate_room : HasRoom of_gate lent
     gate_room = first_room room of_gate of_states gate_first
 
     module _ {base : Lines} (first : Adds of_gate lent base) where
       -- then all states are left
-      pub states_begin : StatesLeading base base 0
+      pub states_begin : StatesLeading base base 0 (profiles_of b.profiles)
       states_begin =
-          let same : gate + 1 + 0 ≡ gate + 1 = omega arith in
-          left_as (begin (second_room room of_gate of_states gate_first first)) (rw same)
-
-      -- and at the end the block is written
-      pub states_done : {new : Lines} (i : ℕ) → StatesLeading base new i → drop i ts ≡ [] → Adds (block_at W M k ts gate t) lent new
-      unfolding states_from
-      states_done i w nothing = both_written room of_gate of_states gate_first first (all_written w (rw nothing))
-
-  -- the next state, whose profile is x
-  module _ {base new : Lines} (i : ℕ) (w : StatesLeading base new i) (x : Profile)
-      (next : drop i ts ≡ x ∷ drop (i + 1) ts) where
-    abbrev of_state : List Arrow
-    of_state = leads_onward W M k ts gate t (gate + 1 + i) (some x)
-
-    -- its arrows, and what is left behind them
-    state_first : states_left i ≡ of_state ++ states_left (i + 1)
-    unfolding states_from
-    state_first =
-        let behind : suc (gate + 1 + i) ≡ gate + 1 + (i + 1) = omega arith in
-        rw (next, behind)
-
-    -- there is room for them
-    pub room_of_state : HasRoom of_state new
-    room_of_state = room_next w of_state (states_left (i + 1)) state_first
-
-    -- and they are written
-    pub state_written : {newer : Lines} → Adds of_state new newer → StatesLeading base newer (i + 1)
-    state_written p = write_next w of_state (states_left (i + 1)) state_first p
-
--- BLOCK AFTER BLOCK
--- what a turn keeps: there are as many marks as arrows, and no more bytes that show who has a block than profiles; the blocks of the
--- profiles from number j on, the first with its gate at gate, fit and are left to write
-pub record Blocks (W : ℕ) (M : Machine ℕ) (k : ℕ) (arrows marks shown : List ℕ) (all : List Arrow) (base new : Lines) (gate j : ℕ) : Type 0 where
-  pub same : length marks ≡ length arrows
-  pub covers : length shown ≤ length arrows
-  pub fits : gate + length (kept_from shown (profiles_at arrows marks) j) * (length arrows + 1) ≤ 65535
-  pub writing : Left all base new (blocks_from W M k (profiles_at arrows marks) gate (kept_from shown (profiles_at arrows marks) j))
-
-module _ {W : ℕ} {M : Machine ℕ} {k : ℕ} {arrows marks shown : List ℕ} where
-  -- at first all is left
-  pub blocks_begin : {base : Lines} {first : ℕ} → length marks ≡ length arrows → length shown ≤ length arrows
-      → first + length (keep_by shown (profiles_at arrows marks)) * (length arrows + 1) ≤ 65535
-      → HasRoom (blocks_from W M k (profiles_at arrows marks) first (keep_by shown (profiles_at arrows marks))) base
-      → Blocks W M k arrows marks shown (blocks_from W M k (profiles_at arrows marks) first (keep_by shown (profiles_at arrows marks))) base base first 0
-  blocks_begin same covers f r = record { same = same; covers = covers; fits = f; writing = begin r }
-
-  module _ {all : List Arrow} {base new : Lines} {gate j : ℕ} (w : Blocks W M k arrows marks shown all base new gate j) where
-    -- the profiles of the two slices
-    abbrev ts : List Profile
-    ts = profiles_at arrows marks
-
-    -- and at the end nothing
-    pub blocks_done : length shown ≤ j → Adds all base new
-    unfolding blocks_from
-    blocks_done end = all_written w.writing (ap (blocks_from W M k ts gate) (none_kept shown ts _ end))
-
-    module _ (here : j < length shown) where
-      -- profile number j has no block
-      pub block_passed : (get_or shown j 0 ≡ 1 → ⊥) → Blocks W M k arrows marks shown all base new gate (j + 1)
-      block_passed not_1 =
-          let step = next_passed shown arrows marks j w.same w.covers here not_1 in
           record {
-            same = w.same;
-            covers = w.covers;
-            fits = rw (← step) w.fits;
-            writing = left_as w.writing (ap (blocks_from W M k ts gate) step);
+            long = omega (arith, profiles_length b.profiles.arrows.now b.profiles.marks.now b.profiles.alike);
+            writing = begin (second_room room of_gate of_states gate_first first);
           }
 
-      module _ (kept : get_or shown j 0 ≡ 1) where
-        -- the profiles with a block behind it
-        abbrev left : List Profile
-        left = kept_from shown ts (j + 1)
+      -- and at the end the block is written
+      pub states_done : {new : Lines} {i : ℕ} {xs : List Profile} → StatesLeading base new i xs → xs ≡ [] → Adds (block_lines m b) lent new
+      unfolding states_from
+      states_done w nothing = both_written room of_gate of_states gate_first first (all_written w.writing (rw nothing))
 
-        -- with a 1 beside it, it is the first that is left
-        first : kept_from shown ts j ≡ profile_at arrows marks j ∷ left
-        first = next_kept shown arrows marks j w.same w.covers here kept
+  -- the next state, whose profile is x
+  module _ {base new : Lines} {i : ℕ} {x : Profiled} {xs rest : List Profile} (w : StatesLeading base new i xs)
+      (next : xs ≡ profile x ∷ rest) where
+    abbrev of_state : List Arrow
+    of_state = leads_lines m b (b.gate + 1 + i) (Some x)
 
-        -- its block fits, and so do those behind it
-        pub block_fits : gate + (length arrows + 1) + length left * (length arrows + 1) ≤ 65535
-        block_fits = next_fits shown arrows marks j w.same w.covers here kept gate w.fits
+    -- its arrows, and what is left behind them
+    state_first : states_left i xs ≡ of_state ++ states_left (i + 1) rest
+    unfolding states_from
+    state_first =
+        let behind : suc (b.gate + 1 + i) ≡ b.gate + 1 + (i + 1) = omega arith in
+        rw (next, behind)
 
-        -- what is left is its block and what is left behind it
-        next_block : blocks_from W M k ts gate (kept_from shown ts j)
-            ≡ block_at W M k ts gate (profile_at arrows marks j) ++ blocks_from W M k ts (gate + (length arrows + 1)) left
-        unfolding blocks_from
-        next_block = rw (first, profiles_length arrows marks w.same)
+    -- its number is one of the block's
+    pub state_fits : b.gate + 1 + i < 65535
+    state_fits = omega (arith, w.long, ap length next, b.fits)
 
-        -- so there is room for its block
-        pub block_room : HasRoom (block_at W M k ts gate (profile_at arrows marks j)) new
-        block_room = room_next w.writing _ _ next_block
+    -- there is room for its arrows
+    pub room_of_state : HasRoom of_state new
+    room_of_state = room_next w.writing of_state (states_left (i + 1) rest) state_first
 
-        -- and when that is written, those behind it are left
-        pub block_written : {newer : Lines} → Adds (block_at W M k ts gate (profile_at arrows marks j)) new newer
-            → Blocks W M k arrows marks shown all base newer (gate + (length arrows + 1)) (j + 1)
-        block_written p =
-            record { same = w.same; covers = w.covers; fits = block_fits; writing = write_next w.writing _ _ next_block p }
+    -- and they are written
+    pub state_written : {newer : Lines} → Adds of_state new newer → StatesLeading base newer (i + 1) rest
+    state_written p =
+        record {
+          long = omega (arith, w.long, ap length next);
+          writing = write_next w.writing of_state (states_left (i + 1) rest) state_first p;
+        }
+
+-- BLOCK AFTER BLOCK: what is left to write of a walk over the blocks
+module _ (m : Checked) where
+  abbrev pub left_blocks : Blocks → List Arrow
+  left_blocks s = blocks_from 8 (machine_of m) m.model.k (profiles_of s.shown.tables.now.profiles) s.gate (left_of s)
+
+  -- at first it is all of them
+  pub blocks_first : {shown : Shown} {s : Blocks} → First shown s
+      → blocks_from 8 (machine_of m) m.model.k (profiles_of shown.tables.now.profiles) (length shown.tables.now.masks.now) (shown_of shown.tables.now shown.bytes.now)
+      ≡ left_blocks s
+  blocks_first f = rw (f.shown_is, f.passed, f.gate)
+
+  -- the next block, and what is left behind it
+  pub blocks_next : {s t : Blocks} {b : Block} → NextBlock s b t → left_blocks s ≡ block_lines m b ++ left_blocks t
+  unfolding blocks_from
+  blocks_next {s = s} n =
+      let ps = s.shown.tables.now.profiles in
+      rw (n.first, n.behind, n.shown, n.gate, n.profiles, profiles_length ps.arrows.now ps.marks.now ps.alike)
+
+  -- at the end it is nothing
+  pub blocks_last : (s : Blocks) → left_of s ≡ [] → left_blocks s ≡ []
+  unfolding blocks_from
+  blocks_last s e = rw e

@@ -1,5 +1,3 @@
--- the numbers that a loop goes through
-pub mod Turns
 -- the tables in their slices, entry by entry
 pub mod Rows
 -- where a value stands in its table

@@ -17,13 +17,11 @@ use Rattle.laws.proofs.Over.{written}
 use Rattle.laws.proofs.Read.{opposite_by_numbers}
 use Rattle.model.specs.Asked.{asked}
 use Rattle.model.specs.declared.Model.{Model}
-use Rattle.model.specs.Numbers.{number_of}
-use Rattle.closing.proofs.Promises.{one_closing}
+use Rattle.closing.proofs.Promises.{one_closing, same_refused}
 use Rattle.opposite.specs.Memory.{arrows_in}
 use Rattle.opposite.specs.Opposites.{told, tells, due, WritesOpposite}
 use Rattle.closing.specs.declared.Refused.{Refused}
 use Rattle.opposite.specs.declared.Written.{Written}
-use Rattle.model.proofs.Numbers.{one_number}
 use Rattle.opposite.proofs.Concluding.{arrows_read}
 
 -- THE OPPOSITE reads only the first k numbers of arrows: with k there, no other matters
@@ -33,16 +31,11 @@ unfolding opposite_in
 opposite_first_k m arrows other S T O here there same =
     opposite_by_numbers (asked m arrows) other same eight here there (room_for_sets eight S) (room_for_profiles eight T) (room_for_states O) (room_for_arrows O)
 
--- what is written is its four counts, and a refusal what is refused and both counts
+-- what is written is its four counts
 same_written : (x y : Written) → x.sets ≡ y.sets → x.profiles ≡ y.profiles → x.states ≡ y.states → x.arrows ≡ y.arrows → x ≡ y
 same_written x y s p t a =
     ap₂ (λ m n. record { sets = m; profiles = n; states = x.states; arrows = x.arrows }) s p
     ∙ ap₂ (λ m n. record { sets = y.sets; profiles = y.profiles; states = m; arrows = n }) t a
-
-same_refused : (x y : Refused) → number_of x.refusal ≡ number_of y.refusal → x.sets ≡ y.sets → x.profiles ≡ y.profiles → x ≡ y
-same_refused x y r s p =
-    ap (λ r. record { refusal = r; sets = x.sets; profiles = x.profiles }) (one_number x.refusal y.refusal r)
-    ∙ ap₂ (λ m n. record { refusal = y.refusal; sets = m; profiles = n }) s p
 
 -- no two answers tell the same
 told_once : (a b : Result Written Refused) → told a ≡ told b → a ≡ b

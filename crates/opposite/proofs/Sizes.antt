@@ -16,8 +16,11 @@ use Rattle.laws.specs.Model.{Machine}
 use Rattle.laws.specs.Profiles.{Profile}
 use Rattle.laws.specs.Opposite.{has_block, rejects_non_empty, second_count, block_profiles, pair_count, state_count, arrow_count}
 use Rattle.laws.proofs.Booleans.{both}
+use Rattle.model.specs.Lent.{machine_of}
 use Rattle.opposite.specs.Drawing.{Counted}
+use Rattle.opposite.specs.Lent.{profiles_of}
 use Rattle.opposite.specs.declared.counts.Counts.{Counts}
+use Rattle.opposite.specs.declared.tables.Tables.{Tables}
 use Rattle.opposite.proofs.Adding.{Adding, add_begins, add_next, add_ends, total_most, few_seconds}
 use Rattle.opposite.proofs.Adding.{none_counted, no_pair_no_block, pair_has_block}
 use Rattle.opposite.proofs.Adding.{Counting, count_begins, count_next, count_ends, count_most}
@@ -139,9 +142,9 @@ module _ (W : ℕ) (M : Machine ℕ) (k : ℕ) (Ps : List ℕ) (ts : List Profil
 
   module _ {c : Counts} {j : ℕ} (so : Sized c j) where
     -- t is next, and rejects with so many sets other than the empty one
-    module _ (t : Profile) (next : drop j ts ≡ t ∷ drop (j + 1) ts) {pairs : ℕ} (are : pairs ≡ count (λ P. rejects_non_empty W P t) Ps) where
+    module _ (t : Profile) {i : ℕ} (next : drop j ts ≡ t ∷ drop i ts) {pairs : ℕ} (are : pairs ≡ count (λ P. rejects_non_empty W P t) Ps) where
       -- with none: it adds nothing
-      pub size_passes : pairs ≡ 0 → Sized c (j + 1)
+      pub size_passes : pairs ≡ 0 → Sized c i
       unfolding block_states block_arrows
       size_passes e =
           let none : has_block W Ps t ≡ false = no_pair_no_block W Ps t are e in
@@ -153,7 +156,7 @@ module _ (W : ℕ) (M : Machine ℕ) (k : ℕ) (Ps : List ℕ) (ts : List Profil
 
       -- with some: it adds a block
       pub size_grows : (pairs ≡ 0 → ⊥) → {size seconds : ℕ} → size ≡ length ts + 1 → seconds ≡ second_count W M k ts t
-          → Sized (record { blocks = c.blocks + 1; states = c.states + size; arrows = c.arrows + (k * pairs + size * k) + seconds }) (j + 1)
+          → Sized (record { blocks = c.blocks + 1; states = c.states + size; arrows = c.arrows + (k * pairs + size * k) + seconds }) i
       unfolding block_states block_arrows
       size_grows n e f =
           let has : has_block W Ps t ≡ true = pair_has_block W Ps t are n in
@@ -234,3 +237,7 @@ module _ (W : ℕ) (M : Machine ℕ) (k : ℕ) (Ps : List ℕ) (ts : List Profil
                     };
               }
           go false f = no_fit (sym f)
+
+-- HOW FAR THE SIZE IS COUNTED of the code's tables
+abbrev pub SizedOf : Tables → Counts → ℕ → Type 0
+SizedOf t = Sized 8 (machine_of t.asked) t.asked.model.k t.masks.now (profiles_of t.profiles)

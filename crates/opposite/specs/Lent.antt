@@ -1,9 +1,12 @@
 -- What the code lends for the opposite, and the tables that it has, as document 01's.
-use Rattle.std.specs.Prelude.{ℕ, ◌≡◌, List}
+use Rattle.std.specs.Prelude.{ℕ, ◌≡◌, List, drop, Option}
 use Rattle.laws.specs.Profiles as paper
 use Rattle.laws.specs.Answers.{OppositeSlices}
+use Rattle.model.specs.Lent.{machine_of}
 use Rattle.opposite.specs.Memory.{opposite_memory}
 use Rattle.opposite.specs.Tables.{profiles_at, keep_by}
+use Rattle.opposite.specs.Drawing.{Counted, Fitting, Drawn, Draws}
+use Rattle.opposite.specs.declared.counts.Counts.{Counts}
 use Rattle.opposite.specs.declared.memory.OppositeMemory.{OppositeMemory}
 use Rattle.opposite.specs.declared.tables.Profiles.{Profiles}
 use Rattle.opposite.specs.declared.tables.Tables.{Tables}
@@ -26,3 +29,25 @@ profiles_of p = profiles_at p.arrows.now p.marks.now
 -- those of its profiles that have a block
 abbrev pub shown_of : Tables → List ℕ → List paper.Profile
 shown_of t shown = keep_by shown (profiles_of t.profiles)
+
+-- and of those from number i on
+abbrev pub shown_from : Tables → List ℕ → ℕ → List paper.Profile
+shown_from t shown i = keep_by (drop i shown) (drop i (profiles_of t.profiles))
+
+-- WHAT IS COUNTED AND DRAWN of the opposite of these tables
+module _ (t : Tables) where
+  -- it is counted, and fits room for so many states and arrows or does not
+  abbrev pub CountedOf : ℕ → ℕ → Option Counts → Type 0
+  CountedOf = Counted 8 (machine_of t.asked) t.asked.model.k t.masks.now (profiles_of t.profiles)
+
+  -- it fits the slices, and has so many blocks
+  abbrev pub FittingOf : OppositeSlices → ℕ → Type 0
+  FittingOf = Fitting 8 (machine_of t.asked) t.asked.model.k t.masks.now (profiles_of t.profiles)
+
+  -- its flags and arrows stand in the slices
+  abbrev pub DrawnOf : OppositeSlices → OppositeSlices → Type 0
+  DrawnOf = Drawn 8 (machine_of t.asked) t.asked.model.k t.masks.now (profiles_of t.profiles)
+
+  -- they do where it fits, and else nothing is drawn
+  abbrev pub DrawsOf : OppositeSlices → OppositeSlices → Option Counts → Type 0
+  DrawsOf = Draws 8 (machine_of t.asked) t.asked.model.k t.masks.now (profiles_of t.profiles)

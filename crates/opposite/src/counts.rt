@@ -6,8 +6,7 @@ ghost use Rattle.laws.specs.Opposite.{rejects_non_empty, second_count};
 ghost use Rattle.model.specs.Lent.{machine_of};
 ghost use Rattle.profile.specs.Values.{profile, before as before_of};
 ghost use Rattle.opposite.specs.Tables.{remains_unmarked};
-ghost use Rattle.opposite.specs.Lent.{profiles_of};
-ghost use Rattle.opposite.specs.Drawing.{Counted};
+ghost use Rattle.opposite.specs.Lent.{profiles_of, CountedOf};
 
 use crate::tables::Tables;
 use model::Checked;
@@ -45,22 +44,18 @@ impl Counts {
 }
 
 // The set is not empty, the profile leads it exactly to itself, and no state of it back to itself with a mark.
-#[tactic(auto, unfolding(crate::specs::Tables::remains_unmarked))]
+#[tactic(auto, using(crate::proofs::Adding::unmarked_by_arrows))]
 pub fn stays_unmarked(set: u8, t: Profile) -> bool
     ensures { result ≡ remains_unmarked 8 set (profile t) }
 {
-    if set == 0 {
-        return false;
-    }
-    image(set, t.arrows) == set && !marks_round(set, t)
+    set != 0 && image(set, t.arrows) == set && !marks_round(set, t)
 }
 
 // With how many sets other than the empty one the profile rejects. It is squared once, for all sets.
 pub fn pairs_of(masks: &[u8], t: Profile) -> usize
     ensures { result ≡ count_of (λ P. rejects_non_empty 8 P (profile t)) masks.now }
 {
-    let square = join(t, t);
-    if square != t {
+    if join(t, t) != t {
         return 0;
     }
     masks.iter().filter(|set| stays_unmarked(**set, t)).count()
@@ -91,13 +86,12 @@ fn returns_of(asked: &Checked, x: Option<Profile>, t: Profile) -> usize
 
 // How many second arrows the block of t has.
 fn seconds_of(tables: &Tables, t: Profile) -> usize
-    requires { length tables.now.profiles.arrows.now ≤ 2048 }
     ensures { result ≡ second_count 8 (machine_of tables.now.asked) tables.now.asked.model.k
         (profiles_of tables.now.profiles) (profile t) }
 {
     let mut found = returns_of(&tables.asked, None, t);
-    for i in 0..tables.profiles.len() {
-        found += returns_of(&tables.asked, Some(tables.profiles.at(i)), t);
+    for (&arrows, &marks) in tables.profiles.arrows.iter().zip(tables.profiles.marks) {
+        found += returns_of(&tables.asked, Some(Profile { arrows, marks }), t);
     }
     found
 }
@@ -105,10 +99,8 @@ fn seconds_of(tables: &Tables, t: Profile) -> usize
 // Goes through the profiles and adds up what their blocks have, as long as that fits: nothing, where there are more states or arrows than
 // there is room for. So no more second arrows are looked for than there is room for arrows.
 pub fn count(tables: &Tables, state_room: usize, arrow_room: usize) -> Option<Counts>
-    requires few { (length tables.now.profiles.arrows.now ≤ 2048) × (length tables.now.masks.now ≤ 256) }
-    requires state_room_bound { (state_room ≤ 65535) × (arrow_room ≤ 65535) }
-    ensures { Counted 8 (machine_of tables.now.asked) tables.now.asked.model.k tables.now.masks.now
-        (profiles_of tables.now.profiles) state_room arrow_room result }
+    requires { (state_room ≤ 65535) × (arrow_room ≤ 65535) }
+    ensures { CountedOf tables.now state_room arrow_room result }
 {
     let k = tables.asked.model.k;
     let size = tables.profiles.len() + 1;
@@ -117,8 +109,8 @@ pub fn count(tables: &Tables, state_room: usize, arrow_room: usize) -> Option<Co
         states: tables.masks.len(),
         arrows: tables.masks.len() * k,
     };
-    for j in 0..tables.profiles.len() {
-        let t = tables.profiles.at(j);
+    for (&arrows, &marks) in tables.profiles.arrows.iter().zip(tables.profiles.marks) {
+        let t = Profile { arrows, marks };
         let pairs = pairs_of(tables.masks, t);
         if pairs == 0 {
             continue;

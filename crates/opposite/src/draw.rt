@@ -1,11 +1,9 @@
 // The opposite of complete tables: counted first, and written only where it fits.
 ghost use Rattle.std.specs.Prelude.{◌≤◌, ◌≡◌, cond, length, eqb};
 ghost use Rattle.laws.specs.Answers.{room_for_states, room_for_arrows};
-ghost use Rattle.model.specs.Lent.{machine_of};
-ghost use Rattle.opposite.specs.Lent.{opposite_lent, SameOpposite, profiles_of};
-ghost use Rattle.opposite.specs.Drawing.{Fitting, Drawn, Draws};
+ghost use Rattle.opposite.specs.Lent.{opposite_lent, SameOpposite, FittingOf, DrawnOf, DrawsOf};
 
-use crate::arrows::Lines;
+use crate::arrows::{Lines, Shown};
 use crate::counts::{Counts, count};
 use crate::flags::{show, write};
 use crate::memory::OppositeMemory;
@@ -41,34 +39,33 @@ fn shown_profiles(profiles: usize, blocks: usize) -> usize
 }
 
 // Writes the arrows and the flags of an opposite that fits. Until the flags are written, their slice holds which profiles have a block.
-fn write_all(tables: &Tables, count: usize, out: &mut OppositeMemory)
-    requires fitting { Fitting 8 (machine_of tables.now.asked) tables.now.asked.model.k tables.now.masks.now (profiles_of tables.now.profiles)
-        (opposite_lent out.old) count }
-    ensures drawn { Drawn 8 (machine_of tables.now.asked) tables.now.asked.model.k tables.now.masks.now (profiles_of tables.now.profiles)
-        (opposite_lent out.old) (opposite_lent out.new) }
+fn write_all(tables: &Tables, blocks: usize, out: &mut OppositeMemory)
+    requires fitting { FittingOf tables.now (opposite_lent out.old) blocks }
+    ensures drawn { DrawnOf tables.now (opposite_lent out.old) (opposite_lent out.new) }
     ensures same { SameOpposite out.new out.old }
 {
-    let profiles = shown_profiles(tables.profiles.len(), count);
+    let profiles = shown_profiles(tables.profiles.len(), blocks);
     let flags = &mut *out.flags;
     show(tables.masks, &tables.profiles, &mut flags[..profiles]);
-    let shown = &flags[..profiles];
+    let shown = Shown {
+        tables: &*tables,
+        bytes: &flags[..profiles],
+    };
     let mut lines = Lines {
         from: out.from,
         event: out.event,
         to: out.to,
         count: 0,
     };
-    lines.sets(tables, shown);
-    lines.blocks(tables, shown);
-    write(tables.masks, tables.profiles.len(), count, flags);
+    lines.sets(shown);
+    lines.blocks(shown);
+    write(tables.masks, tables.profiles.len(), blocks, flags);
 }
 
 // Counts, and writes where it fits.
 #[tactic(auto, unfolding(laws::specs::Answers::room_for_states, laws::specs::Answers::room_for_arrows))]
 pub fn draw(tables: &Tables, out: &mut OppositeMemory) -> Option<Counts>
-    requires few { (length tables.now.profiles.arrows.now ≤ 2048) × (length tables.now.masks.now ≤ 256) }
-    ensures draws { Draws 8 (machine_of tables.now.asked) tables.now.asked.model.k tables.now.masks.now (profiles_of tables.now.profiles)
-        (opposite_lent out.old) (opposite_lent out.new) result }
+    ensures draws { DrawsOf tables.now (opposite_lent out.old) (opposite_lent out.new) result }
     ensures same { SameOpposite out.new out.old }
 {
     let counted = count(tables, state_room(out), arrow_room(out))?;

@@ -38,6 +38,7 @@ fn tables_of<'a>(
 ) -> Tables<'a>
     requires sets { closed.sets ≤ length sets.now.masks.now }
     requires profiles { (closed.profiles ≤ length profiles.now.arrows.now) × (closed.profiles ≤ length profiles.now.marks.now) }
+    requires few { (closed.profiles ≤ 2048) × (closed.sets ≤ 256) }
     ensures asked { result.asked ≡ asked.entry }
     ensures masks { result.masks.now ≡ take closed.sets sets.now.masks.now }
     ensures arrows { result.profiles.arrows.now ≡ take closed.profiles profiles.now.arrows.now }

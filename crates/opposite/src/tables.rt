@@ -1,8 +1,8 @@
 // The complete tables that an opposite is made from.
-ghost use Rattle.std.specs.Prelude.{◌<◌, ◌≡◌, length, get_or, eqb};
+ghost use Rattle.std.specs.Prelude.{◌≤◌, ◌<◌, ◌≡◌, length, get_or, eqb};
 ghost use Rattle.laws.specs.Bits.{place_of};
 ghost use Rattle.laws.specs.Profiles.{same_profile};
-ghost use Rattle.profile.specs.Values.{profile};
+ghost use Rattle.profile.specs.Values.{profile as value_of};
 ghost use Rattle.opposite.specs.Tables.{profiles_at};
 
 use model::Checked;
@@ -35,22 +35,60 @@ impl<'a> Profiles<'a> {
         }
     }
 
+    // The profiles, one by one.
+    pub fn iter(&self) -> Each<'a>
+        ensures { result.left ≡ self.now }
+    {
+        Each { left: *self }
+    }
+
     // The place of a profile; how many there are, where it is not among them.
     pub fn place(&self, x: Profile) -> usize
-        ensures { result ≡ place_of (same_profile (profile x)) (profiles_at self.now.arrows.now self.now.marks.now) }
+        ensures { result ≡ place_of (same_profile (value_of x)) (profiles_at self.now.arrows.now self.now.marks.now) }
     {
-        (0..self.len())
-            .position(|i| x == self.at(i))
-            .unwrap_or(self.len())
+        let many = self.len();
+        self.iter().position(|y| x == y).unwrap_or(many)
     }
 }
 
-// The model, its sets and its profiles.
+// A walk over profiles: those that are left.
+#[derive(Drop)]
+pub struct Each<'a> {
+    pub left: Profiles<'a>,
+}
+
+impl Iterator for Each<'_> {
+    ghost use Rattle.std.specs.Iterator.{YieldsFirstBy, item_count};
+    ghost use Rattle.opposite.specs.Lines.{each_left};
+
+    type Item = Profile;
+
+    ghost next_gives = { YieldsFirstBy value_of each_left };
+
+    ghost remaining = { item_count each_left };
+
+    #[tactic(auto, unfolding(crate::specs::Tables::profiles_at))]
+    fn next(&mut self) -> Option<Profile> {
+        let (arrows, other_arrows) = self.left.arrows.split_first()?;
+        let (marks, other_marks) = self.left.marks.split_first()?;
+        self.left = Profiles {
+            arrows: other_arrows,
+            marks: other_marks,
+        };
+        Some(Profile {
+            arrows: *arrows,
+            marks: *marks,
+        })
+    }
+}
+
+// The model, its sets and its profiles, which are no more than closing can answer.
 #[derive(Clone, Copy)]
 pub struct Tables<'a> {
     pub asked: Checked<'a>,
     pub masks: &'a [u8],
     pub profiles: Profiles<'a>,
+    pub ghost few: { (length profiles.arrows.now ≤ 2048) × (length masks.now ≤ 256) },
 }
 
 // The place of a set; how many there are, where it is not among them.

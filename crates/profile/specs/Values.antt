@@ -17,10 +17,14 @@ plain arrows = record { arrows = arrows; marks = 0 }
 unfoldable pub event_value : ℕ → ℕ → paper.Profile
 event_value arrows home = record { arrows = arrows; marks = grid 8 (λ p q. cell 8 arrows p q && bit home q) }
 
+-- the value of what was read so far, as document 01's: none where it has none
+abbrev pub so_far : {A B : Type 0} → (A → B) → Maybe A → Option B
+so_far f None = none
+so_far f (Some x) = some (f x)
+
 -- the profile of what was read so far: none where nothing was
 abbrev pub before : Maybe Profile → Option paper.Profile
-before None = none
-before (Some t) = some (profile t)
+before = so_far profile
 
 -- the profile of what was read with one event more
 abbrev pub next_value : Maybe Profile → Profile → paper.Profile

@@ -39,15 +39,14 @@ pub fn pack<T: Fn(usize) -> bool>(n: usize, test: T) -> u64
 }
 
 // The test holds of some state.
-#[tactic(auto, unfolding(laws::specs::Bits::some_below), using(laws::proofs::Booleans::some_is_below))]
 pub fn some_state<T: Fn(usize) -> bool>(test: T) -> bool
     requires { (r : ℕ) → r < 8 → T.pre test r }
     ensures { (f : ℕ → Bool) → Answers (T.post test) 8 f → result ≡ some_below 8 f }
 {
-    for r in 0..Model::STATES {
-        if test(r) {
-            return true;
-        }
-    }
-    false
+    (0..Model::STATES).any(
+        |r|
+            requires { (r < 8) × T.pre test r }
+            ensures { (r < 8) × T.post test r result }
+        { test(r) },
+    )
 }

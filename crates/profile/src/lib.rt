@@ -79,7 +79,10 @@ pub fn of_event(arrows: u64, home: u8) -> Profile
 {
     Profile {
         arrows,
-        marks: pack(64, |i| has(arrows, i) & has(home as u64, i % Model::STATES)),
+        marks: pack(
+            64,
+            |i| has(arrows, i) & has(u64::from(home), i % Model::STATES),
+        ),
     }
 }
 
@@ -98,7 +101,7 @@ fn reached(set: u8, arrows: u64, q: usize) -> bool
     requires { q < 8 }
     ensures { result ≡ some_below 8 (λ p. bit set p && cell_of 8 arrows p q) }
 {
-    some_state(|p| has(set as u64, p) & cell(arrows, p, q))
+    some_state(|p| has(u64::from(set), p) & cell(arrows, p, q))
 }
 
 // The set to which arrows lead a set.

@@ -11,7 +11,7 @@ use crate::{Profile, image, join};
 pub fn marks_round(set: u8, t: Profile) -> bool
     ensures { result ≡ marks_a_round 8 set (profile t) }
 {
-    some_state(|r| has(set as u64, r) & cell(t.marks, r, r))
+    some_state(|r| has(u64::from(set), r) & cell(t.marks, r, r))
 }
 
 // The set and the profile fit, and no state of the set has a marked way back to itself.

@@ -9,7 +9,7 @@ use lib.Seq.{take_at, take_all, take-suc, take-length, length-take-le, take-appe
 use Rattle.laws.specs.Answers.{over}
 use Rattle.laws.proofs.Over.{over_length, over_again}
 use Rattle.rung_check.specs.declared.text.Text.{Text}
-use Rattle.rung_check.specs.Putting.{text_put, Puts, Within, Adds, Stands}
+use Rattle.rung_check.specs.Putting.{text_put, Puts, Adds, Stands}
 
 -- what was cut off once is cut off again
 take_again : (n : ℕ) (xs ys : List ℕ) → take n (take n xs ++ ys) ≡ take n (xs ++ ys)
@@ -58,12 +58,9 @@ module _ {xs old : List ℕ} {at : ℕ} {mid : List ℕ} {e : ℕ} (first : Puts
   unfolding text_put
   cut = simp length-take (omega arith)
 
-  -- the slice keeps its length, and the text ends in it
-  pub put_length : length mid ≡ length old
+  -- the slice keeps its length
+  put_length : length mid ≡ length old
   put_length = ap length first.slice ∙ over_length (text_put xs old at) old cut
-
-  pub put_within : e ≤ length mid
-  put_within = omega (arith, put_length, cut, first.length_is)
 
   -- the text so far is what was put
   so_far : take e mid ≡ text_put xs old at
@@ -83,10 +80,9 @@ module _ {xs old : List ℕ} {at : ℕ} {mid : List ℕ} {e : ℕ} (first : Puts
       }
 
 -- THE SAME OF A TEXT and the slice that is lent for it
-pub adds_nothing : (t : Text) → Within t → Adds [] t t
-adds_nothing t within = record {
-  puts = puts_nothing t.out.now t.end within;
-  within = within;
+pub adds_nothing : (t : Text) → Adds [] t t
+adds_nothing t = record {
+  puts = puts_nothing t.out.now t.end t.within;
   same_reference = refl;
 }
 
@@ -96,7 +92,6 @@ adds_same {a = a} {b = b} = subst (λ t. Adds t a b)
 pub adds_both : {xs ys : List ℕ} {a b c : Text} → Adds xs a b → Adds ys b c → Adds (xs ++ ys) a c
 adds_both first second = record {
   puts = puts_both first.puts second.puts;
-  within = second.within;
   same_reference = second.same_reference ∙ first.same_reference;
 }
 
@@ -104,13 +99,13 @@ adds_both first second = record {
 pub adds_whole : {text old new : List ℕ} {a b : Text} → a.out.now ≡ old → a.end ≡ 0 → length text ≤ length old → Adds text a b
     → new ≡ b.out.now → Stands text old new b.end
 unfolding text_put
-adds_whole {text} {old} slice empty room added last =
+adds_whole {text} {old} {b = b} slice empty room added last =
     let puts = rw (slice, empty) at added.puts in
     let all : text_put text old 0 ≡ text = take_all (length old) text room in
     record {
       slice = last ∙ puts.slice ∙ ap (λ t. over t old) all;
       length_is = puts.length_is ∙ ap length all;
-      within = rw last added.within;
+      within = rw last b.within;
     }
 
 -- the first i bytes of a text, then the next

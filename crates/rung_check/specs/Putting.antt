@@ -13,14 +13,9 @@ module _ (bytes old : List ℕ) (at : ℕ) where
     pub slice : new ≡ over text_put old
     pub length_is : answer ≡ length text_put
 
--- the text ends within the slice that is lent for it
-abbrev pub Within : Text → Type 0
-Within t = t.end ≤ length t.out.now
-
 -- bytes are put behind a text, in the slice that was lent for it
 pub record Adds (bytes : List ℕ) (old new : Text) : Type 0 where
   pub puts : Puts bytes old.out.now old.end new.out.now new.end
-  pub within : Within new
   pub same_reference : new.out.ghost_name ≡ old.out.ghost_name
 
 -- the whole text stands in the first places of the slice, and behind it what stood there

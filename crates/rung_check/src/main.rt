@@ -12,10 +12,10 @@ use std::io;
 use std::io::{Read, Write};
 
 // A longest valid file has 211 bytes. With one byte more it is seen that something follows, and no check looks any further, so a longer
-// file is judged by its first 212 bytes as it is by all of them: `printed_beginning` says so.
+// file is judged by its first 212 bytes as it is by all of them: `report_beginning` says so.
 const MOST_BYTES: usize = 212;
 
-// More than a longest report has: `printed_short` says so.
+// More than a longest report has: `report_is_short` says so.
 const MOST_TEXT: usize = 8192;
 
 // Reads until the slice is full or the input ends, and says how many bytes were read: those that the input lost stand first in the slice.

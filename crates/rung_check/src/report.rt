@@ -6,7 +6,7 @@ ghost use Rattle.laws.specs.Program.{sets_text, profiles_text, count_line, fault
 ghost use Rattle.model.specs.Asked.{asked};
 ghost use Rattle.model.specs.Numbers.{number_of};
 ghost use Rattle.cover.specs.Verdicts.{told, given};
-ghost use Rattle.rung_check.specs.Putting.{Within, Adds, Stands};
+ghost use Rattle.rung_check.specs.Putting.{Adds, Stands};
 
 use crate::text::Text;
 use closing::{ProfileMemory, Refused, SetMemory};
@@ -14,11 +14,10 @@ use cover::Answer;
 use model::{Fault, Model};
 
 // The word memory of document 01: u has at most 255 letters and v at most 2,048.
-const MOST_LETTERS: usize = 2304;
+const MOST_LETTERS: usize = Model::SETS + Model::PROFILES;
 
 // The lines for the counts.
 fn put_counts(sets: usize, profiles: usize, text: &mut Text)
-    requires { Within text.old }
     ensures { Adds (count_line sets_text sets ++ count_line profiles_text profiles) text.old text.new }
 {
     text.put_count(b"sets ", sets as u64);
@@ -28,8 +27,7 @@ fn put_counts(sets: usize, profiles: usize, text: &mut Text)
 // The lines for an answer of the verdict; u and v stand one behind the other in the word memory.
 #[tactic(auto, unfolding(cover::specs::Verdicts::told))]
 fn put_answer(answer: Result<Answer, Refused>, memory: &[u8], text: &mut Text)
-    requires words { (told answer).u + (told answer).v ≤ length memory.now }
-    requires within { Within text.old }
+    requires { (told answer).u + (told answer).v ≤ length memory.now }
     ensures { Adds
         (answer_lines (told answer).number (told answer).sets (told answer).profiles (given answer memory.now))
         text.old text.new }
@@ -59,7 +57,6 @@ fn put_answer(answer: Result<Answer, Refused>, memory: &[u8], text: &mut Text)
 
 // The line for a refusal of the reader.
 fn put_fault(fault: Fault, text: &mut Text)
-    requires { Within text.old }
     ensures { Adds (fault_line (record { number = number_of fault.refusal; offset = fault.offset })) text.old text.new }
 {
     text.put_text(b"refused ");
@@ -69,7 +66,6 @@ fn put_fault(fault: Fault, text: &mut Text)
 
 // The verdict of a model, with tables of as many sets and profiles as are ever used, and room for every u and v.
 fn check(m: Model, arrows: &[u64], text: &mut Text)
-    requires { Within text.old }
     ensures { Adds (lines_of (verdict_answer eight (asked m arrows.now) 256 2048 2304)) text.old text.new }
 {
     let mut sets = SetMemory {
@@ -90,7 +86,6 @@ fn check(m: Model, arrows: &[u64], text: &mut Text)
 
 // What is printed for a file: the refusal of the reader, or what the verdict on its model says.
 fn put_report(file: &[u8], text: &mut Text)
-    requires { Within text.old }
     ensures { Adds (printed file.now) text.old text.new }
 {
     let mut arrows = [0u64; Model::EVENTS];

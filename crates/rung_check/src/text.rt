@@ -1,16 +1,18 @@
 // Text, put piece by piece into a lent slice; what there is no room for is left out.
-ghost use Rattle.std.specs.Prelude.{◌≡◌, [], ◌∷◌};
+ghost use Rattle.std.specs.Prelude.{◌≡◌, ◌≤◌, [], ◌∷◌, length};
 ghost use Rattle.laws.specs.Program.{decimal, count_line, word_line};
-ghost use Rattle.rung_check.specs.Putting.{Within, Adds};
 
 // A lent slice, and where in it the text ends.
 #[derive(Drop)]
 pub struct Text<'a> {
     out: &'a mut [u8],
     pub end: usize,
+    ghost within: { end ≤ length out.now },
 }
 
 impl<'a> Text<'a> {
+    ghost use Rattle.rung_check.specs.Putting.{Adds};
+
     pub fn new(out: &'a mut [u8]) -> Text<'a>
         ensures same_reference { result.out.ghost_name ≡ out.entry.ghost_name }
         ensures slice { result.out.now ≡ out.old }
@@ -21,7 +23,6 @@ impl<'a> Text<'a> {
 
     // One byte behind the text.
     pub fn put(&mut self, byte: u8)
-        requires { Within self.old }
         ensures { Adds (byte ∷ []) self.old self.new }
     {
         if self.end < self.out.len() {
@@ -31,7 +32,6 @@ impl<'a> Text<'a> {
     }
 
     pub fn put_text(&mut self, text: &[u8])
-        requires { Within self.old }
         ensures { Adds text.now self.old self.new }
     {
         for byte in text {
@@ -41,7 +41,6 @@ impl<'a> Text<'a> {
 
     // A number in decimal digits: those of its tenth, then its last one.
     pub fn put_number(&mut self, x: u64)
-        requires { Within self.old }
         ensures { Adds (decimal x) self.old self.new }
     {
         if 10 <= x {
@@ -52,7 +51,6 @@ impl<'a> Text<'a> {
 
     // The line of a count, behind its text.
     pub fn put_count(&mut self, text: &[u8], count: u64)
-        requires { Within self.old }
         ensures { Adds (count_line text.now count) self.old self.new }
     {
         self.put_text(text);
@@ -62,7 +60,6 @@ impl<'a> Text<'a> {
 
     // The line of a word: its name, then its letters, a space before each.
     pub fn put_word(&mut self, name: u8, word: &[u8])
-        requires { Within self.old }
         ensures { Adds (word_line name word.now) self.old self.new }
     {
         self.put(name);

@@ -70,8 +70,8 @@ fn show_stored<P: Print, R: Read>(rt: &P, input: &mut R, head: [u8; HEAD]) -> io
         home,
     };
     let mut arrows = [0u64; MOST_ARROWS];
-    for a in 0..MOST_ARROWS {
-        arrows[a] = read_number(input);
+    for x in &mut arrows {
+        *x = read_number(input);
     }
     // As many of them as the stored model says are lent.
     let lent = usize::from(lent).min(MOST_ARROWS);

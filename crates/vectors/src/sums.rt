@@ -1,4 +1,5 @@
 // The sum of memory.
+
 // Sixteen bits go into the sum.
 fn mix(sum: u64, x: u64) -> u64 {
     (sum % 4294967291 * 65599 + x % 65536) % 4294967291

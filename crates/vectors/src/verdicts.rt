@@ -6,7 +6,7 @@ use model::Model;
 use std::io;
 
 // Room for u and v, as many letters as there may be sets and profiles.
-const WORDS: usize = 2304;
+const WORDS: usize = Model::SETS + Model::PROFILES;
 
 pub fn show_verdict<P: Print>(rt: &P, m: Model, arrows: &[u64]) -> io::Result<()> {
     let mut tables = Tables::new();

@@ -2,7 +2,6 @@
 -- complete tables.
 use native.Mathlib.Omega.{arith}
 use mathlib.Core.Path.{◌≡◌}
-use lib.ListN.{length-take}
 use Rattle.std.specs.Prelude.{Option as Maybe, None, Err}
 use Rattle.std.specs.Option.{ok_or}
 use Rattle.closing.specs.declared.Refused.{Refused}
@@ -32,12 +31,11 @@ tables_of-tables-requires-clause-profiles c =
     let s = profiles_stand c.in_ok-closed.ensures.closing in
     (omega arith, omega arith)
 
-pub draw-requires : goal.draw-requires
-draw-requires c =
+pub tables_of-tables-requires-clause-few : goal.tables_of-tables-requires-clause-few
+tables_of-tables-requires-clause-few c =
     let s = sets_stand c.in_ok-closed.ensures.closing in
     let t = profiles_stand c.in_ok-closed.ensures.closing in
-    let e = c.tables_of-tables.ensures in
-    record { few = rw (e.masks, e.arrows) (simp length-take (omega arith), simp length-take (omega arith)) }
+    (omega arith, omega arith)
 
 pub returns-in_err-drawn-clause-opposite : goal.returns-in_err-drawn-clause-opposite
 returns-in_err-drawn-clause-opposite c =

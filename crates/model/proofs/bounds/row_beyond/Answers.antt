@@ -5,4 +5,4 @@ use Rattle.model.proofs.bounds.row_beyond.Goals as goal
 
 pub returns : goal.returns
 unfolding mask_beyond
-returns c = quotient_test c.args.n c.args.row
+returns c = rw c.from.ensures (quotient_test c.args.n c.args.row)

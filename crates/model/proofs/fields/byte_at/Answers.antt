@@ -8,7 +8,7 @@ use Rattle.laws.proofs.FileForm.{whole}
 use Rattle.model.proofs.fields.byte_at.Goals as goal
 
 pub returns-then-not-is_formed : goal.returns-then-not-is_formed
-returns-then-not-is_formed c = stopped_check 8 _ (rw (← c.if-not-is_formed.ensures))
+returns-then-not-is_formed c = rw c.at.ensures (stopped_check 8 _ (rw (← c.if-not-is_formed.ensures)))
 
 pub bounds-file-at : goal.bounds-file-at
 bounds-file-at c = omega (arith, whole _ _ _ 1 (sym c.if-not-is_formed.ensures))

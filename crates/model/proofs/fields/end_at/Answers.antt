@@ -8,12 +8,12 @@ use Rattle.model.proofs.fields.end_at.Goals as goal
 
 pub returns-then-not-stand_at : goal.returns-then-not-stand_at
 unfolding end_checks
-returns-then-not-stand_at c = stopped_form _ 8 _ _ _ (sym c.if-not-stand_at.ensures)
+returns-then-not-stand_at c = rw c.at.ensures (stopped_form _ 8 _ _ _ (sym c.if-not-stand_at.ensures))
 
 pub returns-then-at-file : goal.returns-then-at-file
 unfolding end_checks
 returns-then-at-file c =
-    stopped_value _ 8 _ _ _ (sym c.if-not-stand_at.ensures) (lt-ltb _ _ c.if-at-file.true)
+    rw c.at-then-at-file.ensures (stopped_value _ 8 _ _ _ (sym c.if-not-stand_at.ensures) (lt-ltb _ _ c.if-at-file.true))
 
 pub returns : goal.returns
 unfolding end_checks

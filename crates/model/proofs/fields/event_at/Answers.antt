@@ -13,19 +13,20 @@ bounds-file-at c = omega (arith, whole _ _ 0x05 _ (sym c.if-not-is_formed.ensure
 pub returns-then-not-is_formed : goal.returns-then-not-is_formed
 returns-then-not-is_formed c =
     let there = c.event_offset-at.ensures.0 in
-    elim c.then-not-is_formed.branch [
+    rw c.at.ensures (elim c.then-not-is_formed.branch [
       | then-not-is_formed-via-then-not-is_formed w ↦ event_misformed _ _ _ _ there (sym w.if-not-is_formed.ensures)
       | then-not-is_formed-via-else-not-is_formed+then-file-at w ↦
           other_event _ _ _ _ there (sym w.if-not-is_formed.ensures) w.if-file-at.true
-    ]
+    ])
 
 pub slice_bounds-masks-end : goal.slice_bounds-masks-end
 slice_bounds-masks-end c = omega (arith, whole _ _ 0x05 _ (sym c.if-not-is_formed.ensures))
 
 pub returns-then-some_mask_beyond : goal.returns-then-some_mask_beyond
 returns-then-some_mask_beyond c =
-    event_beyond _ _ _ _ c.event_offset-at.ensures.0 (sym c.if-not-is_formed.ensures) c.if-file-at.false
-    (sym c.if-some_mask_beyond.ensures) (omega arith)
+    rw c.at-then-some_mask_beyond.ensures
+    (event_beyond _ _ _ _ c.event_offset-at.ensures.0 (sym c.if-not-is_formed.ensures) c.if-file-at.false
+    (sym c.if-some_mask_beyond.ensures) (omega arith))
 
 pub returns : goal.returns
 returns c =

@@ -19,7 +19,7 @@ returns-in_default-second c =
 pub returns-then-room-k : goal.returns-then-room-k
 returns-then-room-k c =
     let a = c.args in
-    no_room a.file.now a.room c.in-Ok.ensures c.in-Ok-second.ensures c.if-room-k.true
+    rw c.at.ensures (no_room a.file.now a.room c.in-Ok.ensures c.in-Ok-second.ensures c.if-room-k.true)
 
 pub mask_at-third-requires : goal.mask_at-third-requires
 mask_at-third-requires c = (omega arith, number_most c.args.file.now 0 0x01 8 _ c.in-Ok.ensures)

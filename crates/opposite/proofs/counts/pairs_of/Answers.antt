@@ -11,10 +11,10 @@ use Rattle.opposite.proofs.counts.pairs_of.Goals as goal
 pub returns-then-ne : goal.returns-then-ne
 unfolding is_idempotent same_profile
 returns-then-ne c =
-    count_none _ _ (λ P. rejects_other 8 P _ (rw (← c.join-square.ensures) (grind arith)))
+    count_none _ _ (λ P. rejects_other 8 P _ (rw (← c.join.ensures) (grind arith)))
 
 pub returns : goal.returns
 unfolding is_idempotent same_profile
 returns c =
     let kept : c.count.result ≡ count_by (λ P. remains_unmarked 8 P (profile c.args.t)) c.args.masks.now = search (rules, chains) in
-    kept ∙ sym (count_same _ _ (λ P. rejects_idempotent 8 P _ (rw (← c.join-square.ensures) (grind arith))) _)
+    kept ∙ sym (count_same _ _ (λ P. rejects_idempotent 8 P _ (rw (← c.join.ensures) (grind arith))) _)

@@ -11,10 +11,8 @@ use lib.Dec.{eqb}
 use Rattle.laws.specs.Answers.{OppositeSlices}
 use Rattle.laws.specs.Opposite.{has_block}
 use Rattle.model.specs.Lent.{machine_of}
-use Rattle.opposite.specs.Lent.{profiles_of}
+use Rattle.opposite.specs.Lent.{profiles_of, FittingOf}
 use Rattle.opposite.specs.Memory.{opposite_memory}
-use Rattle.opposite.specs.Drawing.{Fitting}
-use Rattle.opposite.specs.Lines.{Shows}
 use Rattle.opposite.specs.declared.arrows.Lines.{Lines}
 use Rattle.opposite.specs.declared.tables.Tables.{Tables}
 use Rattle.opposite.proofs.Whole.{Noted, note, noted_room, read_room, shown_few, flags_room, last_state, all_idempotent}
@@ -23,9 +21,7 @@ use Rattle.opposite.proofs.draw.write_all.Goals as goal
 
 -- beside n of the tables' profiles it is noted whether they have a block, in the first flags of an opposite that fits
 module _ (t : Tables) {from event to fs : List ℕ} {h long n : ℕ}
-    (fits :
-    Fitting 8 (machine_of t.asked) t.asked.model.k t.masks.now (profiles_of t.profiles) (opposite_memory from event to fs) h)
-    (all : long ≡ length t.profiles.arrows.now) (is : n ≡ cond (eqb h 0) 0 long) where
+    (fits : FittingOf t (opposite_memory from event to fs) h) (all : long ≡ length t.profiles.arrows.now) (is : n ≡ cond (eqb h 0) 0 long) where
   abbrev of : ℕ → List ℕ
   of n = map (λ x. cond (has_block 8 t.masks.now x) 1 0) (take n (profiles_of t.profiles))
 
@@ -45,9 +41,6 @@ module _ (t : Tables) {from event to fs : List ℕ} {h long n : ℕ}
     said =
         let whole : length (take n fs) ≡ n = length-take-le n fs room in
         says (rw (← whole) w)
-
-    shows : Shows t (take n (shown ++ drop n fs))
-    shows = record { few = shown_few said; fits = last_state said; squares = all_idempotent said }
 
 -- what stands in the writer's slices stands in those that were lent to it
 lent : {from event to flags : List ℕ} {O : OppositeSlices} (l : Lines) → from ≡ l.from.now → event ≡ l.event.now → to ≡ l.to.now
@@ -70,11 +63,15 @@ slice_bounds-shown-end-2 c =
     let s = said c.args.tables.now c.requires.fitting c.len.ensures c.shown_profiles-profiles.ensures c.show.ensures in
     sym (length-take-le _ _ (read_room s))
 
+pub invariant_of-shown : goal.invariant_of-shown
+invariant_of-shown c =
+    let s = said c.args.tables.now c.requires.fitting c.len.ensures c.shown_profiles-profiles.ensures c.show.ensures in
+    record { few = shown_few s; fits = last_state s; squares = all_idempotent s }
+
 pub sets-requires : goal.sets-requires
 sets-requires c =
     let s = said c.args.tables.now c.requires.fitting c.len.ensures c.shown_profiles-profiles.ensures c.show.ensures in
     record {
-      shows = shows c.args.tables.now c.requires.fitting c.len.ensures c.shown_profiles-profiles.ensures c.show.ensures;
       room = record { room = sets_room s };
     }
 
@@ -82,7 +79,6 @@ pub blocks-requires : goal.blocks-requires
 blocks-requires c =
     let s = said c.args.tables.now c.requires.fitting c.len.ensures c.shown_profiles-profiles.ensures c.show.ensures in
     record {
-      shows = shows c.args.tables.now c.requires.fitting c.len.ensures c.shown_profiles-profiles.ensures c.show.ensures;
       room = record { room = blocks_room s c.sets.ensures.puts };
     }
 

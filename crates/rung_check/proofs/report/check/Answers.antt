@@ -7,8 +7,8 @@ use Rattle.rung_check.proofs.Pieces.{adds_same}
 use Rattle.rung_check.proofs.Reporting.{lines_of_answer}
 use Rattle.rung_check.proofs.report.check.Goals as goal
 
-pub put_answer-requires-clause-words : goal.put_answer-requires-clause-words
-put_answer-requires-clause-words c = omega (arith, words_within c.verdict-answer.ensures.verdict)
+pub put_answer-requires : goal.put_answer-requires
+put_answer-requires c = omega (arith, words_within c.verdict-answer.ensures.verdict)
 
 pub returns : goal.returns
 unfolding room_for_sets room_for_profiles

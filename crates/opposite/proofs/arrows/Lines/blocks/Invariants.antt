@@ -1,8 +1,7 @@
-use Rattle.model.specs.Lent.{machine_of}
 use Rattle.opposite.specs.Lines.{blocks_lines}
-use Rattle.opposite.proofs.Leading.{Blocks}
+use Rattle.opposite.proofs.Leading.{left_blocks}
+use Rattle.opposite.proofs.Lines.{Left}
 use Rattle.opposite.proofs.arrows.Lines.blocks.Given as goal
 
-abbrev pub invariant-loop-j : goal.invariant-loop-j
-invariant-loop-j l = Blocks 8 (machine_of l.tables.asked) l.tables.asked.model.k l.tables.profiles.arrows.now l.tables.profiles.marks.now l.shown
-    (blocks_lines l.tables l.shown) l.initial.self l.self l.gate l.j
+abbrev pub invariant-loop-block : goal.invariant-loop-block
+invariant-loop-block l = Left (blocks_lines l.shown) l.initial.self l.self (left_blocks l.shown.tables.now.asked l.block-iterator)

@@ -9,28 +9,28 @@ loop-a-init c = leaving_begins _ _ _ _ _ _ c.requires.room
 
 pub put-requires-clause-room : goal.put-requires-clause-room
 put-requires-clause-room c =
-    next_room _ _ _ _ _ _ c.args.tables.now.asked.unrefused c.loop-a.invariant c.loop-a-test.true c.image.ensures
+    next_room _ _ _ _ _ _ c.args.shown.tables.now.asked.unrefused c.loop-a.invariant c.loop-a-test.true c.image.ensures
     c.place_of_set.ensures
 
 pub put-requires-clause-p_bound : goal.put-requires-clause-p_bound
 put-requires-clause-p_bound c =
-    let fits = c.requires.shows.fits in
+    let fits = c.args.shown.fits in
     let within =
-    next_within _ _ _ _ _ _ c.args.tables.now.asked.unrefused c.loop-a.invariant c.loop-a-test.true c.image.ensures
+    next_within _ _ _ _ _ _ c.args.shown.tables.now.asked.unrefused c.loop-a.invariant c.loop-a-test.true c.image.ensures
     c.place_of_set.ensures in
     omega arith
 
 pub into_blocks-requires-clause-i_bound : goal.into_blocks-requires-clause-i_bound
-into_blocks-requires-clause-i_bound c = omega (arith, profile_within _ _ c.args.tables.now.profiles.alike _ c.place-e.ensures)
+into_blocks-requires-clause-i_bound c = omega (arith, profile_within _ _ c.args.shown.tables.now.profiles.alike _ c.place-e.ensures)
 
 pub into_blocks-requires-clause-room : goal.into_blocks-requires-clause-room
 into_blocks-requires-clause-room c =
-    entries_room _ _ _ _ _ _ c.args.tables.now.asked.unrefused c.loop-a.invariant c.loop-a-test.true c.image.ensures
+    entries_room _ _ _ _ _ _ c.args.shown.tables.now.asked.unrefused c.loop-a.invariant c.loop-a-test.true c.image.ensures
     c.place_of_set.ensures c.put.ensures _ c.of_event.ensures c.place-e.ensures
 
 pub loop-a-preserved : goal.loop-a-preserved
 loop-a-preserved c =
-    event_left _ _ _ _ _ _ c.args.tables.now.asked.unrefused c.loop-a.invariant c.loop-a-test.true c.image.ensures
+    event_left _ _ _ _ _ _ c.args.shown.tables.now.asked.unrefused c.loop-a.invariant c.loop-a-test.true c.image.ensures
     c.place_of_set.ensures c.put.ensures _ c.of_event.ensures c.place-e.ensures c.into_blocks.ensures
 
 pub returns : goal.returns

@@ -7,6 +7,6 @@ use Rattle.opposite.proofs.Leading.{leads_from}
 use Rattle.opposite.proofs.arrows.Lines.leads_on.Given as goal
 
 abbrev pub invariant-loop-a : goal.invariant-loop-a
-invariant-loop-a l = Left (leads_lines l.tables l.block l.p l.x) l.initial.self l.self
-    (leads_from 8 (machine_of l.tables.asked) l.tables.asked.model.k (profiles_of l.tables.profiles) l.block.gate (profile l.block.profile) l.p
+invariant-loop-a l = Left (leads_lines l.asked l.block l.p l.x) l.initial.self l.self
+    (leads_from 8 (machine_of l.asked) l.asked.model.k (profiles_of l.block.profiles) l.block.gate (profile l.block.profile) l.p
     (before_of l.x) l.a)

@@ -5,5 +5,5 @@ use Rattle.opposite.proofs.Leaving.{SetsLeaving}
 use Rattle.opposite.proofs.arrows.Lines.sets.Given as goal
 
 abbrev pub invariant-loop-i : goal.invariant-loop-i
-invariant-loop-i l = SetsLeaving (checked_model l.tables.asked) l.tables.masks.now (profiles_of l.tables.profiles) (shown_of l.tables l.shown)
-    (sets_lines l.tables l.shown) l.initial.self l.self l.i
+invariant-loop-i l = SetsLeaving (checked_model l.shown.tables.now.asked) l.shown.tables.now.masks.now (profiles_of l.shown.tables.now.profiles) (shown_of l.shown.tables.now l.shown.bytes.now)
+    (sets_lines l.shown) l.initial.self l.self l.i

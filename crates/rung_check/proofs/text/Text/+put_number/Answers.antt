@@ -11,6 +11,6 @@ returns t c =
     let first : Adds (first_digits c.args.x) c.args.self.now c.if-x-ge10.self =
     elim c.if-x-ge10.branch [
       | then-x-ge10 w ↦ rw (first_tenth _ w.if-x-ge10.true, w.self-is) w.put_number.ensures
-      | else-x-ge10 w ↦ rw (first_none _ w.if-x-ge10.false, w.self-is) (adds_nothing _ c.requires)
+      | else-x-ge10 w ↦ rw (first_none _ w.if-x-ge10.false, w.self-is) (adds_nothing _)
     ] in
     rw (decimal_last c.args.x (omega arith)) (adds_both first c.put.ensures)

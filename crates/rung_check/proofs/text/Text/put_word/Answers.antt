@@ -9,7 +9,7 @@ use Rattle.rung_check.proofs.text.Text.put_word.Goals as goal
 
 pub loop-letter-init : goal.loop-letter-init
 unfolding letters
-loop-letter-init c = adds_nothing _ c.put.ensures.within
+loop-letter-init c = adds_nothing _
 
 pub loop-letter-preserved : goal.loop-letter-preserved
 loop-letter-preserved c =

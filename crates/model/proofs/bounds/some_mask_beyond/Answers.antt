@@ -5,7 +5,7 @@ use Rattle.std.proofs.lemmas.Iterator.{YieldsList-from_slice}
 use Rattle.std.proofs.lemmas.Iterator.Search.{any_from_yields_List}
 use Rattle.laws.specs.Refusals.{mask_beyond}
 use Rattle.model.proofs.Beyond.{asked_any}
-use Rattle.model.proofs.fields.some_mask_beyond.Goals as goal
+use Rattle.model.proofs.bounds.some_mask_beyond.Goals as goal
 
 pub returns : goal.returns
 returns c =
