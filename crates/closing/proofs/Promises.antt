@@ -29,12 +29,13 @@ same_answer a b n s p =
     ap (λ x. record { number = x; sets = a.sets; profiles = a.profiles }) n
     ∙ ap₂ (λ x y. record { number = b.number; sets = x; profiles = y }) s p
 
--- no two answers of the call tell the same
+-- a refusal with its counts is its number and these
 pub same_refused : (x y : Refused) → number_of x.refusal ≡ number_of y.refusal → x.sets ≡ y.sets → x.profiles ≡ y.profiles → x ≡ y
 same_refused x y r s p =
     ap (λ r. record { refusal = r; sets = x.sets; profiles = x.profiles }) (one_number x.refusal y.refusal r)
     ∙ ap₂ (λ m n. record { refusal = y.refusal; sets = m; profiles = n }) s p
 
+-- no two answers of the call tell the same
 told_once : (a b : Result Complete Refused) → told a ≡ told b → a ≡ b
 told_once a b e = go a b (ap (λ t. t.number) e) (ap (λ t. t.sets) e) (ap (λ t. t.profiles) e)
   where

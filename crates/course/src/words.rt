@@ -32,7 +32,7 @@ fn letters_below(k: usize, w: &[u8]) -> bool
 impl<'a> Course<'a> {
     // What is refused of a course: the model's refusals, then 10 and 9, the first that applies. Takes any model and any two words.
     #[tactic(auto, using(crate::proofs::Refused::refusals))]
-    pub fn check(
+    pub(crate) fn check(
         m: Model,
         arrows: &'a [u64],
         u: &'a [u8],
@@ -53,7 +53,7 @@ impl<'a> Course<'a> {
 
     // The set of the beginning.
     #[tactic(auto, using(crate::proofs::Judging::set_steps))]
-    pub fn set_of_beginning(&self) -> u8
+    pub(crate) fn set_of_beginning(&self) -> u8
         ensures { result ≡ word_set 8 (machine_of self.now.model) self.now.u.now }
     {
         let Checked { model, arrows } = self.model;
@@ -66,7 +66,7 @@ impl<'a> Course<'a> {
 
     // The profile of the round.
     #[tactic(auto, using(crate::proofs::Judging::profile_steps))]
-    pub fn profile_of_round(&self) -> Profile
+    pub(crate) fn profile_of_round(&self) -> Profile
         ensures { word_profile 8 (machine_of self.now.model) self.now.v.now ≡ some (profile result) }
     {
         let Checked { model, arrows } = self.model;

@@ -25,7 +25,7 @@ pub enum Answer {
 }
 
 // The verdict on complete tables.
-pub fn conclude(s: Sets, t: Profiles, memory: &mut [u8]) -> Result<Answer, Refused>
+pub(crate) fn conclude(s: Sets, t: Profiles, memory: &mut [u8]) -> Result<Answer, Refused>
     ensures { Concludes (sets_viewed s.entry) (profiles_viewed t.entry) memory.old memory.new result }
 {
     let sets = s.masks.len();

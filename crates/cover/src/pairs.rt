@@ -13,7 +13,7 @@ pub struct Pair {
 
 // Goes through the sets, and for each through all profiles, and leaves both loops at the first pair that rejects.
 #[tactic(auto, unfolding(crate::specs::Pairs::rejects))]
-pub fn first(sets: Sets, profiles: Profiles) -> Option<Pair>
+pub(crate) fn first(sets: Sets, profiles: Profiles) -> Option<Pair>
     ensures { First sets.entry.masks.now profiles.entry.arrows.now profiles.entry.marks.now result }
 {
     let mut found = None;

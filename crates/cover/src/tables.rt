@@ -28,7 +28,7 @@ impl<'s> Sets<'s> {
     ghost use Rattle.cover.specs.Tables.{sets_viewed, first_sets};
 
     // Those in the first places of lent slices.
-    pub fn stored(lent: &'s SetMemory, count: usize) -> Sets<'s>
+    pub(crate) fn stored(lent: &'s SetMemory, count: usize) -> Sets<'s>
         requires there { (room : ℕ) × SetsLent (sets_lent lent.now) count room }
         requires linked { Linked (take count lent.now.from.now) (take count lent.now.event.now) }
         ensures { sets_viewed result ≡ first_sets count (sets_lent lent.now) }
@@ -59,7 +59,7 @@ impl<'s> Profiles<'s> {
     ghost use Rattle.cover.specs.Tables.{profiles_viewed, first_profiles};
 
     // Those in the first places of lent slices.
-    pub fn stored(lent: &'s ProfileMemory, count: usize) -> Profiles<'s>
+    pub(crate) fn stored(lent: &'s ProfileMemory, count: usize) -> Profiles<'s>
         requires there { (room : ℕ) × ProfilesLent (profiles_lent lent.now) count room }
         requires linked { Linked (take count lent.now.from.now) (take count lent.now.event.now) }
         ensures { profiles_viewed result ≡ first_profiles count (profiles_lent lent.now) }

@@ -51,7 +51,7 @@ pub struct Placed {
 
 // Writes the word of the pair's set and behind it that of its profile, or nothing where they do not fit.
 #[tactic(auto, using(crate::proofs::Rebuilding::word_steps), unfolding(laws::specs::Answers::over))]
-pub fn place(sets: Sets, profiles: Profiles, pair: Pair, memory: &mut [u8]) -> Option<Placed>
+pub(crate) fn place(sets: Sets, profiles: Profiles, pair: Pair, memory: &mut [u8]) -> Option<Placed>
     requires set_there { pair.set < length sets.masks.now }
     requires profile_there { pair.profile < length profiles.arrows.now }
     ensures { Places (word_in sets.entry.links.from.now sets.entry.links.event.now pair.set)

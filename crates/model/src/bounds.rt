@@ -4,14 +4,14 @@ ghost use Rattle.laws.specs.Bits.{some_of};
 ghost use Rattle.laws.specs.Refusals.{mask_beyond, arrows_beyond, outside};
 
 // x is outside 1 to most.
-pub fn is_outside(most: usize, x: usize) -> bool
+pub(crate) fn is_outside(most: usize, x: usize) -> bool
     ensures { result ≡ outside most x }
 {
     !(1..=most).contains(&x)
 }
 
 // A row of bits has one for a state n or above.
-pub fn row_beyond(n: usize, row: u8) -> bool
+pub(crate) fn row_beyond(n: usize, row: u8) -> bool
     requires { n ≤ 8 }
     ensures { result ≡ mask_beyond n row }
 {
@@ -19,7 +19,7 @@ pub fn row_beyond(n: usize, row: u8) -> bool
 }
 
 // Some mask has a bit for a state n or above.
-pub fn some_mask_beyond(n: usize, masks: &[u8]) -> bool
+pub(crate) fn some_mask_beyond(n: usize, masks: &[u8]) -> bool
     requires { n ≤ 8 }
     ensures { result ≡ some_of (mask_beyond n) masks.now }
 {
@@ -38,7 +38,7 @@ fn beyond(n: usize, arrows: u64) -> bool
 }
 
 // One of the first k events has such arrows.
-pub fn some_beyond(n: usize, k: usize, arrows: &[u64]) -> bool
+pub(crate) fn some_beyond(n: usize, k: usize, arrows: &[u64]) -> bool
     requires { (n ≤ 8) × (k ≤ length arrows.now) }
     ensures { result ≡ some_of (arrows_beyond 8 n) (take k arrows.now) }
 {

@@ -57,7 +57,7 @@ fn byte_at(file: &[u8], at: usize, tag: u8) -> Field<u8>
 }
 
 // A field of one byte that holds a number from 1 to `most`.
-pub fn number_at(file: &[u8], at: usize, tag: u8, most: usize) -> Field<u8>
+pub(crate) fn number_at(file: &[u8], at: usize, tag: u8, most: usize) -> Field<u8>
     requires { at ≤ 65535 }
     ensures { IsField 8 (number_checks file.now at tag most) (value file.now at) result }
 {
@@ -69,7 +69,7 @@ pub fn number_at(file: &[u8], at: usize, tag: u8, most: usize) -> Field<u8>
 }
 
 // A field of one byte that holds a mask of n states.
-pub fn mask_at(file: &[u8], at: usize, tag: u8, n: usize) -> Field<u8>
+pub(crate) fn mask_at(file: &[u8], at: usize, tag: u8, n: usize) -> Field<u8>
     requires { (at ≤ 65535) × (n ≤ 8) }
     ensures { IsField 8 (mask_checks file.now at tag n) (value file.now at) result }
 {
@@ -81,7 +81,7 @@ pub fn mask_at(file: &[u8], at: usize, tag: u8, n: usize) -> Field<u8>
 }
 
 // Where the field of event a begins, or behind the last event the end field.
-pub fn event_offset(n: usize, a: usize) -> usize
+pub(crate) fn event_offset(n: usize, a: usize) -> usize
     requires { (n ≤ 8) × (a ≤ 16) }
     ensures { (result ≡ offset_of_event n a) × (result ≤ 208) }
 {
@@ -99,7 +99,7 @@ fn packed(masks: &[u8]) -> u64
 }
 
 // The field of event a: its arrow number.
-pub fn event_at(file: &[u8], n: usize, a: usize) -> Field<u64>
+pub(crate) fn event_at(file: &[u8], n: usize, a: usize) -> Field<u64>
     requires { (n ≤ 8) × (a < 16) }
     ensures { IsField 64 (event_checks file.now n a) (from_rows 8 (masks file.now n a)) result }
 {
@@ -115,7 +115,7 @@ pub fn event_at(file: &[u8], n: usize, a: usize) -> Field<u64>
 }
 
 // The end field, behind which nothing follows.
-pub fn end_at(file: &[u8], at: usize) -> Field<u64>
+pub(crate) fn end_at(file: &[u8], at: usize) -> Field<u64>
     requires { at ≤ 65535 }
     ensures { IsField 8 (end_checks file.now at) 0 result }
 {

@@ -5,7 +5,7 @@ use crate::fields::{TAG_HOME, TAG_K, TAG_N, TAG_START, mask_at, number_at};
 use crate::{Fault, Model, Refusal};
 
 // The four fields before the events: n, k, and the masks of start and home states.
-pub fn front(file: &[u8], room: usize) -> Result<Model, Fault>
+pub(crate) fn front(file: &[u8], room: usize) -> Result<Model, Fault>
     ensures { IsFront file.now room result }
 {
     let first = number_at(file, 0, TAG_N, Model::STATES);

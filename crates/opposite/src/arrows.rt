@@ -159,7 +159,7 @@ impl Lines<'_> {
     }
 
     // The blocks of the profiles that have one, behind the sets.
-    pub fn blocks(&mut self, shown: Shown)
+    pub(crate) fn blocks(&mut self, shown: Shown)
         requires room { HasRoom (blocks_lines shown) self.old }
         ensures { Adds (blocks_lines shown.entry) self.old self.new }
     {
@@ -199,7 +199,7 @@ impl Lines<'_> {
     }
 
     // The sets, one behind the other.
-    pub fn sets(&mut self, shown: Shown)
+    pub(crate) fn sets(&mut self, shown: Shown)
         requires room { HasRoom (sets_lines shown) self.old }
         ensures { Adds (sets_lines shown.entry) self.old self.new }
     {

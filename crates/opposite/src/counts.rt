@@ -45,14 +45,14 @@ impl Counts {
 
 // The set is not empty, the profile leads it exactly to itself, and no state of it back to itself with a mark.
 #[tactic(auto, using(crate::proofs::Adding::unmarked_by_arrows))]
-pub fn stays_unmarked(set: u8, t: Profile) -> bool
+pub(crate) fn stays_unmarked(set: u8, t: Profile) -> bool
     ensures { result ≡ remains_unmarked 8 set (profile t) }
 {
     set != 0 && image(set, t.arrows) == set && !marks_round(set, t)
 }
 
 // With how many sets other than the empty one the profile rejects. It is squared once, for all sets.
-pub fn pairs_of(masks: &[u8], t: Profile) -> usize
+pub(crate) fn pairs_of(masks: &[u8], t: Profile) -> usize
     ensures { result ≡ count_of (λ P. rejects_non_empty 8 P (profile t)) masks.now }
 {
     if join(t, t) != t {
@@ -62,7 +62,7 @@ pub fn pairs_of(masks: &[u8], t: Profile) -> usize
 }
 
 // The profile of what was read, if anything was, and then event a.
-pub fn next_on(asked: &Checked, x: Option<Profile>, a: usize) -> Profile
+pub(crate) fn next_on(asked: &Checked, x: Option<Profile>, a: usize) -> Profile
     requires { a < asked.now.model.k }
     ensures { profile result ≡ next_profile 8 (machine_of asked.now) (before_of x) a }
 {
@@ -98,7 +98,7 @@ fn seconds_of(tables: &Tables, t: Profile) -> usize
 
 // Goes through the profiles and adds up what their blocks have, as long as that fits: nothing, where there are more states or arrows than
 // there is room for. So no more second arrows are looked for than there is room for arrows.
-pub fn count(tables: &Tables, state_room: usize, arrow_room: usize) -> Option<Counts>
+pub(crate) fn count(tables: &Tables, state_room: usize, arrow_room: usize) -> Option<Counts>
     requires { (state_room ≤ 65535) × (arrow_room ≤ 65535) }
     ensures { CountedOf tables.now state_room arrow_room result }
 {

@@ -64,7 +64,7 @@ fn write_all(tables: &Tables, blocks: usize, out: &mut OppositeMemory)
 
 // Counts, and writes where it fits.
 #[tactic(auto, unfolding(laws::specs::Answers::room_for_states, laws::specs::Answers::room_for_arrows))]
-pub fn draw(tables: &Tables, out: &mut OppositeMemory) -> Option<Counts>
+pub(crate) fn draw(tables: &Tables, out: &mut OppositeMemory) -> Option<Counts>
     ensures draws { DrawsOf tables.now (opposite_lent out.old) (opposite_lent out.new) result }
     ensures same { SameOpposite out.new out.old }
 {

@@ -10,7 +10,7 @@ use crate::counts::pairs_of;
 use crate::tables::Profiles;
 
 // For each of the first profiles, as many as there are bytes: 1 where it has a block, 0 where not.
-pub fn show(masks: &[u8], profiles: &Profiles, shown: &mut [u8])
+pub(crate) fn show(masks: &[u8], profiles: &Profiles, shown: &mut [u8])
     requires { length shown.old ≤ length profiles.now.arrows.now }
     ensures { shown.new
         ≡ map (λ t. cond (has_block 8 masks.now t) 1 0) (take (length shown.old) (profiles_of profiles.now)) }
@@ -30,7 +30,7 @@ fn block_flags(profiles: usize, flags: &mut [u8], n: usize)
 }
 
 // The flags of the sets, 1 for the empty one, and then of the blocks.
-pub fn write(masks: &[u8], profiles: usize, blocks: usize, flags: &mut [u8])
+pub(crate) fn write(masks: &[u8], profiles: usize, blocks: usize, flags: &mut [u8])
     requires { length masks.now + blocks * (profiles + 1) ≤ length flags.old }
     ensures { flags.new ≡ over (flags_of masks.now profiles blocks) flags.old }
 {

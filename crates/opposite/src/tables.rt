@@ -18,14 +18,14 @@ pub struct Profiles<'a> {
 
 impl<'a> Profiles<'a> {
     // How many there are.
-    pub fn len(&self) -> usize
+    pub(crate) fn len(&self) -> usize
         ensures { result ≡ length self.now.arrows.now }
     {
         self.arrows.len()
     }
 
     // Profile number j.
-    pub fn at(&self, j: usize) -> Profile
+    pub(crate) fn at(&self, j: usize) -> Profile
         requires { j < length self.now.arrows.now }
         ensures { result ≡ record { arrows = get_or self.now.arrows.now j 0; marks = get_or self.now.marks.now j 0 } }
     {
@@ -36,14 +36,14 @@ impl<'a> Profiles<'a> {
     }
 
     // The profiles, one by one.
-    pub fn iter(&self) -> Each<'a>
+    pub(crate) fn iter(&self) -> Each<'a>
         ensures { result.left ≡ self.now }
     {
         Each { left: *self }
     }
 
     // The place of a profile; how many there are, where it is not among them.
-    pub fn place(&self, x: Profile) -> usize
+    pub(crate) fn place(&self, x: Profile) -> usize
         ensures { result ≡ place_of (same_profile (value_of x)) (profiles_at self.now.arrows.now self.now.marks.now) }
     {
         let many = self.len();
@@ -92,7 +92,7 @@ pub struct Tables<'a> {
 }
 
 // The place of a set; how many there are, where it is not among them.
-pub fn place_of_set(masks: &[u8], set: u8) -> usize
+pub(crate) fn place_of_set(masks: &[u8], set: u8) -> usize
     ensures { result ≡ place_of (eqb set) masks.now }
 {
     masks

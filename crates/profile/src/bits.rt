@@ -7,7 +7,7 @@ use model::Model;
 
 // Bit i of x.
 #[tactic(auto, unfolding(laws::specs::Bits::bit))]
-pub fn has(x: u64, i: usize) -> bool
+pub(crate) fn has(x: u64, i: usize) -> bool
     requires { i < 64 }
     ensures { result ≡ bit x i }
 {
@@ -16,7 +16,7 @@ pub fn has(x: u64, i: usize) -> bool
 
 // The bit for p, q of a number packed by rows.
 #[tactic(auto, unfolding(laws::specs::Bits::cell))]
-pub fn cell(x: u64, p: usize, q: usize) -> bool
+pub(crate) fn cell(x: u64, p: usize, q: usize) -> bool
     requires { (p < 8) × (q < 8) }
     ensures { result ≡ cell_of 8 x p q }
 {
@@ -25,7 +25,7 @@ pub fn cell(x: u64, p: usize, q: usize) -> bool
 
 // The number of n bits whose bit i is the test's answer at i.
 #[tactic(auto, unfolding(laws::specs::Bits::number_of_bits))]
-pub fn pack<T: Fn(usize) -> bool>(n: usize, test: T) -> u64
+pub(crate) fn pack<T: Fn(usize) -> bool>(n: usize, test: T) -> u64
     requires few { n ≤ 64 }
     requires callable { (i : ℕ) → i < n → T.pre test i }
     ensures below { result < 2 ^ n }
@@ -39,7 +39,7 @@ pub fn pack<T: Fn(usize) -> bool>(n: usize, test: T) -> u64
 }
 
 // The test holds of some state.
-pub fn some_state<T: Fn(usize) -> bool>(test: T) -> bool
+pub(crate) fn some_state<T: Fn(usize) -> bool>(test: T) -> bool
     requires { (r : ℕ) → r < 8 → T.pre test r }
     ensures { (f : ℕ → Bool) → Answers (T.post test) 8 f → result ≡ some_below 8 f }
 {

@@ -96,7 +96,7 @@ fn put_report(file: &[u8], text: &mut Text)
 }
 
 // All of it: a longest report has no more than 8,192 bytes.
-pub fn report(file: &[u8], out: &mut [u8]) -> usize
+pub(crate) fn report(file: &[u8], out: &mut [u8]) -> usize
     requires { 8192 ≤ length out.old }
     ensures { Stands (printed file.now) out.old out.new result }
 {

@@ -13,7 +13,7 @@ pub struct Text<'a> {
 impl<'a> Text<'a> {
     ghost use Rattle.rung_check.specs.Putting.{Adds};
 
-    pub fn new(out: &'a mut [u8]) -> Text<'a>
+    pub(crate) fn new(out: &'a mut [u8]) -> Text<'a>
         ensures same_reference { result.out.ghost_name ≡ out.entry.ghost_name }
         ensures slice { result.out.now ≡ out.old }
         ensures empty { result.end ≡ 0 }
@@ -22,7 +22,7 @@ impl<'a> Text<'a> {
     }
 
     // One byte behind the text.
-    pub fn put(&mut self, byte: u8)
+    pub(crate) fn put(&mut self, byte: u8)
         ensures { Adds (byte ∷ []) self.old self.new }
     {
         if self.end < self.out.len() {
@@ -31,7 +31,7 @@ impl<'a> Text<'a> {
         }
     }
 
-    pub fn put_text(&mut self, text: &[u8])
+    pub(crate) fn put_text(&mut self, text: &[u8])
         ensures { Adds text.now self.old self.new }
     {
         for byte in text {
@@ -40,7 +40,7 @@ impl<'a> Text<'a> {
     }
 
     // A number in decimal digits: those of its tenth, then its last one.
-    pub fn put_number(&mut self, x: u64)
+    pub(crate) fn put_number(&mut self, x: u64)
         ensures { Adds (decimal x) self.old self.new }
     {
         if 10 <= x {
@@ -50,7 +50,7 @@ impl<'a> Text<'a> {
     }
 
     // The line of a count, behind its text.
-    pub fn put_count(&mut self, text: &[u8], count: u64)
+    pub(crate) fn put_count(&mut self, text: &[u8], count: u64)
         ensures { Adds (count_line text.now count) self.old self.new }
     {
         self.put_text(text);
@@ -59,7 +59,7 @@ impl<'a> Text<'a> {
     }
 
     // The line of a word: its name, then its letters, a space before each.
-    pub fn put_word(&mut self, name: u8, word: &[u8])
+    pub(crate) fn put_word(&mut self, name: u8, word: &[u8])
         ensures { Adds (word_line name word.now) self.old self.new }
     {
         self.put(name);

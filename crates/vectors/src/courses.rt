@@ -7,7 +7,7 @@ use std::io::Read;
 // A stored course: how many letters u has, and how many u and v have, at most so many; and then the letters, zeros behind them.
 const MOST_LETTERS: usize = 80;
 
-pub fn show_course<P: Print, R: Read>(
+pub(crate) fn show_course<P: Print, R: Read>(
     rt: &P,
     input: &mut R,
     m: Model,

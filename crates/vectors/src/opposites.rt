@@ -8,7 +8,7 @@ use std::io;
 // As many arrows and states as an opposite may have.
 const ROOM: usize = 65535;
 
-pub fn show_opposite<P: Print>(rt: &P, m: Model, arrows: &[u64]) -> io::Result<()> {
+pub(crate) fn show_opposite<P: Print>(rt: &P, m: Model, arrows: &[u64]) -> io::Result<()> {
     let mut tables = Tables::new();
     let mut from = [9u16; ROOM];
     let mut event = [9u8; ROOM];

@@ -6,7 +6,7 @@ fn mix(sum: u64, x: u64) -> u64 {
 }
 
 // All numbers of a slice go into the sum, one after the other.
-pub fn mix_all<T: Copy + Into<u64>>(sum: u64, s: &[T]) -> u64 {
+pub(crate) fn mix_all<T: Copy + Into<u64>>(sum: u64, s: &[T]) -> u64 {
     let mut all = sum;
     for x in s {
         all = mix(all, (*x).into());

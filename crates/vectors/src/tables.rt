@@ -13,7 +13,7 @@ pub struct Tables {
 }
 
 impl Tables {
-    pub fn new() -> Tables {
+    pub(crate) fn new() -> Tables {
         Tables {
             set_masks: [9; Model::SETS],
             set_from: [9; Model::SETS],

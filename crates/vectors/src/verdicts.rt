@@ -8,7 +8,7 @@ use std::io;
 // Room for u and v, as many letters as there may be sets and profiles.
 const WORDS: usize = Model::SETS + Model::PROFILES;
 
-pub fn show_verdict<P: Print>(rt: &P, m: Model, arrows: &[u64]) -> io::Result<()> {
+pub(crate) fn show_verdict<P: Print>(rt: &P, m: Model, arrows: &[u64]) -> io::Result<()> {
     let mut tables = Tables::new();
     let mut words = [9u8; WORDS];
     let a = cover_verdict(
