@@ -11,7 +11,7 @@ ghost use Rattle.closing.specs.ProfileRows.{profile_at, profile_layout, profile_
 
 use crate::memory::ProfileMemory;
 use crate::rows::{Entry, Rows};
-use model::{Checked, Model};
+use model::{Checked, Model, least};
 use profile::{Profile, next, of_event};
 
 impl Rows for ProfileMemory<'_> {
@@ -39,11 +39,13 @@ impl Rows for ProfileMemory<'_> {
 
     #[tactic(auto, unfolding(laws::specs::Answers::room_for_profiles))]
     fn room(&self) -> usize {
-        self.arrows
-            .len()
-            .min(self.marks.len())
-            .min(self.from.len().min(self.event.len()))
-            .min(Model::PROFILES)
+        least(
+            least(
+                least(self.arrows.len(), self.marks.len()),
+                least(self.from.len(), self.event.len()),
+            ),
+            Model::PROFILES,
+        )
     }
 
     #[tactic(auto, unfolding(laws::specs::Answers::room_for_profiles))]

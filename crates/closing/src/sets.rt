@@ -11,7 +11,7 @@ ghost use Rattle.closing.specs.SetRows.{set_at, set_layout, set_tells, same_sets
 
 use crate::memory::SetMemory;
 use crate::rows::{Entry, Rows};
-use model::{Checked, Model};
+use model::{Checked, Model, least};
 use profile::image;
 
 impl Rows for SetMemory<'_> {
@@ -39,10 +39,10 @@ impl Rows for SetMemory<'_> {
 
     #[tactic(auto, unfolding(laws::specs::Answers::room_for_sets))]
     fn room(&self) -> usize {
-        self.masks
-            .len()
-            .min(self.from.len().min(self.event.len()))
-            .min(Model::SETS)
+        least(
+            least(self.masks.len(), least(self.from.len(), self.event.len())),
+            Model::SETS,
+        )
     }
 
     #[tactic(auto, unfolding(laws::specs::Answers::room_for_sets))]

@@ -26,7 +26,7 @@ use Rattle.profile.specs.Values.{plain, event_value}
 use Rattle.profile.proofs.Lent.{event_value_is, led_by_arrows, set_after}
 
 -- where every letter is below k, so is the one at a place
-letter_below : (k : ℕ) (w : Word) (i : ℕ) → letters_are_below k w ≡ true → i < length w → get_or w i 0 < k
+pub letter_below : (k : ℕ) (w : Word) (i : ℕ) → letters_are_below k w ≡ true → i < length w → get_or w i 0 < k
 unfolding letters_are_below
 letter_below k [] i h l = absurd (omega arith)
 letter_below k (a ∷ w) zero h l = ltb-true a k (and_left (ltb a k) (letters_are_below k w) h)

@@ -11,7 +11,7 @@ ghost use Rattle.profile.specs.Values.{profile};
 ghost use Rattle.course.specs.Courses.{JudgesCourse};
 
 use model::{Model, Refusal};
-use profile::{Profile, image, join, marks_round, union};
+use profile::{Profile, image, is_same, join, marks_round, union};
 use words::Course;
 
 // The course is accepted or not.
@@ -30,7 +30,7 @@ fn repeated(t: Profile) -> Profile
     let mut c = t;
     loop {
         let grown = union(c, join(c, c));
-        if grown == c {
+        if is_same(grown, c) {
             return c;
         }
         c = grown;
@@ -50,6 +50,7 @@ impl Course<'_> {
 }
 
 // Judges one course, the beginning u and the round v. Takes any model and any two words.
+#[tactic(auto, using(crate::proofs::Judged::refused))]
 pub fn judge(m: Model, arrows: &[u64], u: &[u8], v: &[u8]) -> Result<Judgement, Refusal>
     ensures { JudgesCourse m arrows.now u.now v.now result }
 {

@@ -8,9 +8,9 @@ use closing::{NO_ENTRY, NO_EVENT};
 
 // How many letters the word of entry i has.
 #[tactic(auto, using(crate::proofs::Rebuilding::word_steps))]
-fn count(links: Links, i: usize) -> usize
-    requires { i < length links.from.now }
-    ensures { result ≡ length (word_in links.entry.from.now links.entry.event.now i) }
+fn count(links: &Links, i: usize) -> usize
+    requires { i < length links.now.from.now }
+    ensures { result ≡ length (word_in links.now.from.now links.now.event.now i) }
 {
     let origin = links.from[i];
     if origin == NO_ENTRY {
@@ -24,10 +24,10 @@ fn count(links: Links, i: usize) -> usize
 
 // Writes the word of entry i to a part that has exactly its length.
 #[tactic(auto, using(crate::proofs::Rebuilding::word_steps))]
-fn write(links: Links, i: usize, out: &mut [u8])
-    requires i_in_bounds { i < length links.from.now }
-    requires out_len { length out.old ≡ length (word_in links.from.now links.event.now i) }
-    ensures { out.new ≡ word_in links.entry.from.now links.entry.event.now i }
+fn write(links: &Links, i: usize, out: &mut [u8])
+    requires i_in_bounds { i < length links.now.from.now }
+    requires out_len { length out.old ≡ length (word_in links.now.from.now links.now.event.now i) }
+    ensures { out.new ≡ word_in links.now.from.now links.now.event.now i }
 {
     let origin = links.from[i];
     if origin == NO_ENTRY {
@@ -58,12 +58,12 @@ pub(crate) fn place(sets: Sets, profiles: Profiles, pair: Pair, memory: &mut [u8
         (word_in profiles.entry.links.from.now profiles.entry.links.event.now pair.profile)
         memory.old memory.new result }
 {
-    let u = count(sets.links, pair.set);
-    let v = count(profiles.links, pair.profile);
+    let u = count(&sets.links, pair.set);
+    let v = count(&profiles.links, pair.profile);
     if memory.len() < u + v {
         return None;
     }
-    write(sets.links, pair.set, &mut memory[..u]);
-    write(profiles.links, pair.profile, &mut memory[u..u + v]);
+    write(&sets.links, pair.set, &mut memory[..u]);
+    write(&profiles.links, pair.profile, &mut memory[u..u + v]);
     Some(Placed { u, v })
 }

@@ -5,10 +5,11 @@ use native.Mathlib.Omega.{arith}
 use mathlib.Core.Path.{◌≡◌, refl, sym, ap, ◌∙◌}
 use mathlib.Core.Bool.{Bool, true, false, ◌||◌, or_assoc, or-false}
 use mathlib.Core.List.{List, [], ◌∷◌}
-use lib.ListN.{length, get_or, take, drop}
+use lib.ListN.{length, get_or, take, drop, length-drop}
+use lib.Seq.{get_or-drop}
 use lib.Pow.{pow_pos}
 use lib.Dec.{ltb, leb}
-use borrow.Author.Tests.{ltb-true, leb-true, lt-ltb, lt-leb, le-leb}
+use borrow.Author.Tests.{ltb-true, leb-true, lt-ltb, le-ltb, lt-leb, le-leb}
 use Rattle.std.specs.Int.{w64, to_le_bytes, bytes_low_first}
 use Rattle.std.specs.List.{list_any, range_with_len}
 use Rattle.std.proofs.lemmas.Nat.{pow-add, from_le_bytes-to_le_bytes_8}
@@ -57,14 +58,21 @@ some_first f zero = rw or-false
 some_first f (suc n) =
     ap (λ (b : Bool). b || f (suc n)) (some_first f n) ∙ or_assoc (f 0) (some_below n (λ p. f (suc p))) (f (suc n))
 
--- and the first n rows are asked by their numbers
-first_rows : (f : ℕ → Bool) (n : ℕ) (rows : List ℕ) → n ≤ length rows
-    → some_of f (take n rows) ≡ some_below n (λ p. f (get_or rows p 0))
-unfolding some_of some_below
-first_rows f zero rows l = refl
-first_rows f (suc n) [] l = absurd (omega arith)
-first_rows f (suc n) (r ∷ rs) l =
-    ap (λ (b : Bool). f r || b) (first_rows f n rs (omega arith)) ∙ sym (some_first (λ p. f (get_or (r ∷ rs) p 0)) n)
+-- and the first k elements are asked by their places
+module _ {A : Type 0} (f : A → Bool) (d : A) where
+  pub some_taken : (xs : List A) (k : ℕ) → k ≤ length xs → some_of f (take k xs) ≡ some_below k (λ i. f (get_or xs i d))
+  unfolding some_of some_below
+  some_taken xs zero l = refl
+  some_taken [] (suc k) l = absurd (omega arith)
+  some_taken (x ∷ xs) (suc k) l =
+      ap (λ (b : Bool). f x || b) (some_taken xs k (omega arith)) ∙ sym (some_first (λ i. f (get_or (x ∷ xs) i d)) k)
+
+-- so are the n bytes from an offset on, by their places behind it
+pub some_of_part : (f : ℕ → Bool) (file : List ℕ) (at n : ℕ) → at + n ≤ length file
+    → some_of f (take n (drop at file)) ≡ some_below n (λ i. f (get_or file (at + i) 0))
+some_of_part f file at n h =
+    some_taken f 0 (drop at file) n (omega (arith, length-drop at file))
+    ∙ some_same n _ _ (λ i l. ap f (get_or-drop at file i 0))
 
 -- each byte of a number is below 256
 bytes_small : (i k x p : ℕ) → get_or (bytes_low_first i k x) p 0 < 256
@@ -96,7 +104,16 @@ module _ (n x : ℕ) (rows : List ℕ) (are : rows ≡ to_le_bytes w64 x) (fits 
   beyond_low l e =
       let long : length rows ≡ 8 = ap length are in
       rw (high, ← e)
-      (first_rows (mask_beyond n) n rows (omega arith) ∙ some_same n _ _ (λ p q. ap (mask_beyond n) (row p)))
+      (some_taken (mask_beyond n) 0 rows n (omega arith) ∙ some_same n _ _ (λ p q. ap (mask_beyond n) (row p)))
+
+  -- the first is so where the quotient is not 0, and not where the number is small
+  pub beyond_above : 0 < x / 2 ^ (8 * n) → true ≡ arrows_beyond 8 n x
+  unfolding arrows_beyond
+  beyond_above l =
+      sym (or_left (some_below n (λ p. mask_beyond n (packed_row 8 x p))) (sym (quotient_test (8 * n) x) ∙ lt-ltb 0 (x / 2 ^ (8 * n)) l))
+
+  pub beyond_rows : n ≤ 8 → x / 2 ^ (8 * n) ≤ 0 → some_of (mask_beyond n) (take n rows) ≡ arrows_beyond 8 n x
+  beyond_rows l none = beyond_low l (sym (le-ltb 0 (x / 2 ^ (8 * n)) none) ∙ quotient_test (8 * n) x ∙ high)
 
 -- what `any` answers of a list, and of the numbers below n
 module _ {A : Type 0} (f : A → Bool) where

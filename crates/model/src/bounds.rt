@@ -3,6 +3,8 @@ ghost use Rattle.std.specs.Prelude.{◌≤◌, ◌≡◌, length, take};
 ghost use Rattle.laws.specs.Bits.{some_of};
 ghost use Rattle.laws.specs.Refusals.{mask_beyond, arrows_beyond, outside};
 
+use crate::Model;
+
 // x is outside 1 to most.
 pub(crate) fn is_outside(most: usize, x: usize) -> bool
     ensures { result ≡ outside most x }
@@ -33,8 +35,8 @@ fn beyond(n: usize, arrows: u64) -> bool
     ensures { result ≡ arrows_beyond 8 n arrows }
 {
     let rows = arrows.to_le_bytes();
-    let (first, others) = rows.split_at(n);
-    some_mask_beyond(0, others) || some_mask_beyond(n, first)
+    let first = &rows[..n];
+    n < Model::STATES && 0 < arrows >> (Model::STATES * n) || some_mask_beyond(n, first)
 }
 
 // One of the first k events has such arrows.

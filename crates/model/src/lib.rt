@@ -35,7 +35,7 @@ impl Model {
     pub const PROFILES: usize = 2048;
 }
 
-// The smaller of two numbers, kept as a public call.
+// The smaller of two numbers: a room is the least of its slices and the limit.
 pub fn least(a: usize, b: usize) -> usize
     ensures { result ≡ min a b }
 {

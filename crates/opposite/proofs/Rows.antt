@@ -4,7 +4,7 @@ use native.Mathlib.Omega.{arith}
 use native.Mathlib.Nat.{suc-mul}
 use native.Mathlib.Numerals.{add-one}
 use mathlib.Core.Path.{◌≡◌, refl, sym, ap, ◌∙◌}
-use mathlib.Core.Bool.{true, ◌&&◌}
+use mathlib.Core.Bool.{Bool, true, false, cond, ◌&&◌}
 use mathlib.Core.List.{List, [], ◌∷◌, ◌++◌}
 use lib.ListN.{length, get_or, drop, length-append}
 use denote.Ref.{Bor}
@@ -19,12 +19,13 @@ use Rattle.std.proofs.lemmas.Iterator.{zips}
 use Rattle.std.proofs.lemmas.Slice.Zip.{zip_turn, zip_end}
 use lib.Seq.{drop-cons, drop-nil}
 use borrow.Author.Tests.{ne_eqb}
+use Rattle.std.specs.Option.{unwrap_or}
 use Rattle.std.specs.Prelude.{Option, Some, None, MatchOption}
 use Rattle.std.proofs.Common.{⊎_elim}
 use Rattle.std.proofs.lemmas.Bool.{cases_lt}
 use Rattle.laws.specs.Bits.{place_of, every_of}
 use Rattle.laws.specs.Profiles.{Profile, same_profile}
-use Rattle.laws.proofs.Booleans.{and_left, and_right}
+use Rattle.laws.proofs.Booleans.{and_left, and_right, never}
 use Rattle.laws.proofs.Sorted.{place_in}
 use Rattle.profile.specs.declared.Profile as declared
 use Rattle.profile.specs.Values.{profile}
@@ -60,6 +61,33 @@ pub profile_within : (arrows marks : List ℕ) → length marks ≡ length arrow
     → e ≡ place_of (same_profile x) (profiles_at arrows marks) → e ≤ length arrows
 profile_within arrows marks same x at =
     omega (arith, at, place_in (same_profile x) (profiles_at arrows marks), profiles_length arrows marks same)
+
+-- the first number at which a test holds of the profile, or else how many there are, is its place
+module _ (f : Profile → Bool) where
+  abbrev pub First : List ℕ → List ℕ → ℕ → Option ℕ → Type 0
+  First arrows marks n r =
+      MatchOption r ((k : ℕ) → 0 ≤ k → k < n → f (profile_at arrows marks k) ≡ false)
+      (λ i. (0 ≤ i) × (i < n) × (f (profile_at arrows marks i) ≡ true) × ((k : ℕ) → 0 ≤ k → k < i → f (profile_at arrows marks k) ≡ false))
+
+  pub first_place : (arrows marks : List ℕ) → length marks ≡ length arrows → {n : ℕ} → n ≡ length arrows → (r : Option ℕ)
+      → First arrows marks n r → unwrap_or r n ≡ place_of f (profiles_at arrows marks)
+  unfolding place_of profiles_at
+  first_place [] marks h long None found = long
+  first_place [] marks h long (Some i) found = absurd (omega (arith, found.1))
+  first_place (a ∷ arrows) [] h long r found = absurd (omega arith)
+  first_place (a ∷ arrows) (m ∷ marks) h {n} long r found =
+      go (f (record { arrows = a; marks = m })) refl r found (first_place arrows marks (omega arith) refl)
+    where
+      go : (b : Bool) → f (record { arrows = a; marks = m }) ≡ b → (r : Option ℕ) → First (a ∷ arrows) (m ∷ marks) n r
+          → ((r : Option ℕ) → First arrows marks (length arrows) r → unwrap_or r (length arrows) ≡ place_of f (profiles_at arrows marks))
+          → unwrap_or r n ≡ cond b 0 (suc (place_of f (profiles_at arrows marks)))
+      go true is None none further = never (sym (none 0 (omega arith) (omega arith)) ∙ is)
+      go true is (Some zero) found further = refl
+      go true is (Some (suc i)) found further = never (sym (found.3 0 (omega arith) (omega arith)) ∙ is)
+      go false is None none further = long ∙ ap suc (further None (λ k l u. none (suc k) (omega arith) (omega arith)))
+      go false is (Some zero) found further = never (sym is ∙ found.2)
+      go false is (Some (suc i)) found further =
+          ap suc (further (Some i) (omega arith, omega (arith, found.1), found.2, λ k l u. found.3 (suc k) (omega arith) (omega arith)))
 
 -- profile number j, and what is left behind it
 pub next_profile_is : (arrows marks : List ℕ) (j : ℕ) → length marks ≡ length arrows → j < length arrows

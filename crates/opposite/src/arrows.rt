@@ -10,7 +10,7 @@ ghost use Rattle.opposite.specs.Memory.{HasRoom, Adds};
 use crate::counts::{next_on, stays_unmarked};
 use crate::tables::{Profiles, Tables, place_of_set};
 use model::Checked;
-use profile::{Profile, image, of_event};
+use profile::{Profile, image, is_same, of_event};
 
 // The tables, and beside each of the first profiles a byte that is 1 where the profile has a block. The blocks fit behind the sets, and each
 // profile with a block is its own square.
@@ -120,7 +120,7 @@ impl Lines<'_> {
         requires room { HasRoom (gate_lines block p a y) self.old }
         ensures { Adds (gate_lines block.entry p a y) self.old self.new }
     {
-        if y == block.profile {
+        if is_same(y, block.profile) {
             self.put(p, a, block.gate);
         }
     }

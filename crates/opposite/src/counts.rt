@@ -10,7 +10,7 @@ ghost use Rattle.opposite.specs.Lent.{profiles_of, CountedOf};
 
 use crate::tables::Tables;
 use model::Checked;
-use profile::{Profile, image, join, marks_round, next, of_event};
+use profile::{Profile, image, is_same, join, marks_round, next, of_event};
 
 // How many blocks, states and arrows the opposite has.
 #[derive(Clone, Copy)]
@@ -55,7 +55,7 @@ pub(crate) fn stays_unmarked(set: u8, t: Profile) -> bool
 pub(crate) fn pairs_of(masks: &[u8], t: Profile) -> usize
     ensures { result ≡ count_of (λ P. rejects_non_empty 8 P (profile t)) masks.now }
 {
-    if join(t, t) != t {
+    if !is_same(join(t, t), t) {
         return 0;
     }
     masks.iter().filter(|set| stays_unmarked(**set, t)).count()
@@ -77,7 +77,7 @@ fn returns_of(asked: &Checked, x: Option<Profile>, t: Profile) -> usize
 {
     let mut found = 0;
     for a in 0..asked.model.k {
-        if next_on(asked, x, a) == t {
+        if is_same(next_on(asked, x, a), t) {
             found += 1;
         }
     }

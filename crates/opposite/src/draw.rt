@@ -8,6 +8,7 @@ use crate::counts::{Counts, count};
 use crate::flags::{show, write};
 use crate::memory::OppositeMemory;
 use crate::tables::Tables;
+use model::least;
 
 // At most so many states, and so many arrows.
 const LIMIT: usize = 65535;
@@ -17,7 +18,7 @@ const LIMIT: usize = 65535;
 fn state_room(out: &OppositeMemory) -> usize
     ensures { result ≡ room_for_states (opposite_lent out.now) }
 {
-    out.flags.len().min(LIMIT)
+    least(out.flags.len(), LIMIT)
 }
 
 // The room for arrows: the least of their slices and the limit.
@@ -25,10 +26,10 @@ fn state_room(out: &OppositeMemory) -> usize
 fn arrow_room(out: &OppositeMemory) -> usize
     ensures { result ≡ room_for_arrows (opposite_lent out.now) }
 {
-    out.from
-        .len()
-        .min(out.event.len().min(out.to.len()))
-        .min(LIMIT)
+    least(
+        least(out.from.len(), least(out.event.len(), out.to.len())),
+        LIMIT,
+    )
 }
 
 // Beside how many profiles it is noted whether they have a block: without any block there may be no room for that, and no need.

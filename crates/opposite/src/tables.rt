@@ -47,7 +47,7 @@ impl<'a> Profiles<'a> {
         ensures { result ≡ place_of (same_profile (value_of x)) (profiles_at self.now.arrows.now self.now.marks.now) }
     {
         let many = self.len();
-        self.iter().position(|y| x == y).unwrap_or(many)
+        (0..many).find(|j| x == self.at(*j)).unwrap_or(many)
     }
 }
 

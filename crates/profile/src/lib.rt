@@ -48,10 +48,13 @@ fn marks_at(s: Profile, t: Profile, p: usize, q: usize) -> bool
 pub fn join(s: Profile, t: Profile) -> Profile
     ensures { profile result ≡ joined 8 (profile s) (profile t) }
 {
-    Profile {
-        arrows: pack(64, |i| leads_at(s, t, i / Model::STATES, i % Model::STATES)),
-        marks: pack(64, |i| marks_at(s, t, i / Model::STATES, i % Model::STATES)),
-    }
+    let arrows = pack(64, |i| leads_at(s, t, i / Model::STATES, i % Model::STATES));
+    // Where there is no way none has a mark.
+    let marks = pack(
+        64,
+        |i| has(arrows, i) && marks_at(s, t, i / Model::STATES, i % Model::STATES),
+    );
+    Profile { arrows, marks }
 }
 
 // Leads and marks where s or t does.

@@ -4,7 +4,7 @@ ghost use Rattle.laws.specs.Profiles.{marks_a_round, is_rejecting_pair};
 ghost use Rattle.profile.specs.Values.{profile};
 
 use crate::bits::{cell, has, some_state};
-use crate::{Profile, image, join};
+use crate::{Profile, image, is_same, join};
 
 // Some state of the set is led back to itself with a mark.
 #[tactic(auto, unfolding(laws::specs::Profiles::marks_a_round, laws::specs::Profiles::marked))]
@@ -19,5 +19,5 @@ pub fn marks_round(set: u8, t: Profile) -> bool
 pub fn is_rejecting(set: u8, t: Profile) -> bool
     ensures { result ≡ is_rejecting_pair 8 set (profile t) }
 {
-    image(set, t.arrows) == set && !marks_round(set, t) && join(t, t) == t
+    image(set, t.arrows) == set && !marks_round(set, t) && is_same(join(t, t), t)
 }

@@ -74,7 +74,7 @@ fn show_stored<P: Print, R: Read>(rt: &P, input: &mut R, head: [u8; HEAD]) -> io
         *x = read_number(input);
     }
     // As many of them as the stored model says are lent.
-    let lent = usize::from(lent).min(MOST_ARROWS);
+    let lent = usize::from(lent).min(arrows.len());
     show(rt, input, m, &arrows[..lent], Asked::from(asked))
 }
 

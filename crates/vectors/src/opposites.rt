@@ -9,7 +9,7 @@ use std::io;
 const ROOM: usize = 65535;
 
 pub(crate) fn show_opposite<P: Print>(rt: &P, m: Model, arrows: &[u64]) -> io::Result<()> {
-    let mut tables = Tables::new();
+    let mut tables = Tables::FILLED;
     let mut from = [9u16; ROOM];
     let mut event = [9u8; ROOM];
     let mut to = [9u16; ROOM];

@@ -13,15 +13,13 @@ pub struct Tables {
 }
 
 impl Tables {
-    pub(crate) fn new() -> Tables {
-        Tables {
-            set_masks: [9; Model::SETS],
-            set_from: [9; Model::SETS],
-            set_event: [9; Model::SETS],
-            profile_arrows: [9; Model::PROFILES],
-            profile_marks: [9; Model::PROFILES],
-            profile_from: [9; Model::PROFILES],
-            profile_event: [9; Model::PROFILES],
-        }
-    }
+    pub(crate) const FILLED: Tables = Tables {
+        set_masks: [9; Model::SETS],
+        set_from: [9; Model::SETS],
+        set_event: [9; Model::SETS],
+        profile_arrows: [9; Model::PROFILES],
+        profile_marks: [9; Model::PROFILES],
+        profile_from: [9; Model::PROFILES],
+        profile_event: [9; Model::PROFILES],
+    };
 }

@@ -9,7 +9,7 @@ use std::io;
 const WORDS: usize = Model::SETS + Model::PROFILES;
 
 pub(crate) fn show_verdict<P: Print>(rt: &P, m: Model, arrows: &[u64]) -> io::Result<()> {
-    let mut tables = Tables::new();
+    let mut tables = Tables::FILLED;
     let mut words = [9u8; WORDS];
     let a = cover_verdict(
         m.n,

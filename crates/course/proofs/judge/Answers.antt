@@ -5,39 +5,24 @@ use mathlib.Core.Path.{◌≡◌, refl, sym, ◌∙◌}
 use mathlib.Core.Bool.{Bool, true, false}
 use mathlib.Core.Logic.{◌↔◌}
 use mathlib.Core.List.{List}
-use borrow.Author.Tests.{ne_eqb}
-use Rattle.std.proofs.Common.{Ok, Err}
+use Rattle.std.proofs.Common.{Ok}
 use Rattle.std.proofs.lemmas.Result.{err_from_is_err_and}
 use Rattle.laws.specs.Words.{Word}
 use Rattle.laws.specs.Model as paper
 use Rattle.laws.specs.Model.{eight, machine}
-use Rattle.laws.specs.Refusals.{first_of, course_checks}
 use Rattle.laws.proofs.Booleans.{never}
 use Rattle.model.specs.Asked.{asked}
 use Rattle.model.specs.Lent.{checked_model, machine_of}
-use Rattle.model.specs.Numbers.{number_of}
 use Rattle.model.specs.declared.Model.{Model}
-use Rattle.model.specs.declared.refusals.Refusal.{Refusal}
 use Rattle.course.specs.Courses.{number, accepted, is_said, JudgesCourse}
 use Rattle.course.specs.declared.Judgement.TheVariants.{Accepted, Rejected}
 use Rattle.course.specs.declared.words.Course.{Course}
-use Rattle.model.proofs.Numbers.{some_number}
+use Rattle.course.proofs.Judged.{First, refused}
 use Rattle.course.proofs.judge.Goals as goal
 
 module _ (m : Model) (arrows : List ℕ) (u v : Word) where
-  abbrev First : ℕ → Type 0
-  First n = n ≡ (first_of (course_checks eight (asked m arrows) u v)).number
-
-  refused : (r : Refusal) → First (number_of r) → JudgesCourse m arrows u v (Err r)
-  unfolding number accepted is_said
-  refused r is =
-      record {
-        course = record { number_is = is; yes_with_0 = never; yes_only_if = never; yes_if = λ z. absurd (some_number r z) };
-        said_with_0 = sym (ne_eqb (number_of r) 0 (some_number r));
-      }
-
   -- c is the course, of which nothing is refused: what the test b answers of it is said
-  module _ (none : First 0) (c : Course) (is : (checked_model c.model ≡ asked m arrows) × (c.u.now ≡ u) × (c.v.now ≡ v))
+  module _ (none : First m arrows u v 0) (c : Course) (is : (checked_model c.model ≡ asked m arrows) × (c.u.now ≡ u) × (c.v.now ≡ v))
       {b : Bool} (tells : (b ≡ true) ↔ paper.Accepted (machine_of c.model) c.u.now c.v.now) where
     told : (b ≡ true) ↔ paper.Accepted (machine 8 (asked m arrows)) u v
     told = let (model, beginning, round) = is in rw (model, beginning, round) at tells

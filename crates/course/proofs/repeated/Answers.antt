@@ -31,15 +31,13 @@ module _ {t c twice grown : Profile} (g : Grown 8 t c) (j : twice ≡ join 8 c c
 pub loop-grown-init : goal.loop-grown-init
 loop-grown-init c = grown_start 8 (profile c.args.t) (record { arrows_below = omega arith; marks_below = omega arith })
 
-pub returns-then-eq : goal.returns-then-eq
-unfolding same_profile
-returns-then-eq c =
-    done c.loop-grown.invariant c.join.ensures c.union-grown.ensures (sym c.eq.ensures ∙ c.if-eq.true)
+pub returns-then-is_same : goal.returns-then-is_same
+returns-then-is_same c =
+    done c.loop-grown.invariant c.join.ensures c.union-grown.ensures (sym c.is_same.ensures ∙ c.if-is_same.true)
 
 pub loop-grown-smaller : goal.loop-grown-smaller
-unfolding same_profile
 loop-grown-smaller c =
-    falls c.loop-grown.invariant c.join.ensures c.union-grown.ensures (sym c.eq.ensures ∙ c.if-eq.false)
+    falls c.loop-grown.invariant c.join.ensures c.union-grown.ensures (sym c.is_same.ensures ∙ c.if-is_same.false)
 
 pub loop-grown-preserved : goal.loop-grown-preserved
 loop-grown-preserved c =

@@ -1,15 +1,16 @@
--- The bytes of the number are its rows: those behind the first n are asked for any bit.
+-- The bytes of the number are its rows: behind the first n there is a bit exactly if the number has one there.
 use native.Mathlib.Omega.{arith}
 use mathlib.Core.Path.{◌∙◌}
-use Rattle.model.proofs.Beyond.{beyond_high, beyond_low}
+use Rattle.std.proofs.Common.{rules, tests}
+use Rattle.model.proofs.Beyond.{beyond_above, beyond_rows}
 use Rattle.model.proofs.bounds.beyond.Goals as goal
 
-pub returns-then-some_mask_beyond : goal.returns-then-some_mask_beyond
-returns-then-some_mask_beyond c =
-    beyond_high c.args.n _ _ c.to_le_bytes-rows.ensures (omega arith) (rw c.split_at.ensures.back at c.some_mask_beyond.ensures)
-    c.if-some_mask_beyond.true
+pub returns-then-arrows-n-gt0 : goal.returns-then-arrows-n-gt0
+returns-then-arrows-n-gt0 c =
+    c.if-arrows-n-gt0.true
+    ∙ beyond_above c.args.n c.args.arrows _ c.to_le_bytes-rows.ensures (omega arith) (search (rules, tests))
 
-pub returns-else-some_mask_beyond : goal.returns-else-some_mask_beyond
-returns-else-some_mask_beyond c =
-    (rw c.split_at.ensures.front at c.some_mask_beyond-else-some_mask_beyond.ensures)
-    ∙ beyond_low _ _ _ c.to_le_bytes-rows.ensures (omega arith) c.requires (rw c.split_at.ensures.back at c.if-some_mask_beyond.ensures)
+pub returns-else-arrows-n-gt0 : goal.returns-else-arrows-n-gt0
+returns-else-arrows-n-gt0 c =
+    c.some_mask_beyond.ensures
+    ∙ beyond_rows c.args.n c.args.arrows _ c.to_le_bytes-rows.ensures (omega arith) c.requires (grind arith)

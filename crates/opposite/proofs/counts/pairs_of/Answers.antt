@@ -8,9 +8,9 @@ use Rattle.opposite.proofs.Adding.{rejects_idempotent, rejects_other, count_none
 use Rattle.laws.specs.Profiles.{same_profile}
 use Rattle.opposite.proofs.counts.pairs_of.Goals as goal
 
-pub returns-then-ne : goal.returns-then-ne
+pub returns-then-not-is_same : goal.returns-then-not-is_same
 unfolding is_idempotent same_profile
-returns-then-ne c =
+returns-then-not-is_same c =
     count_none _ _ (λ P. rejects_other 8 P _ (rw (← c.join.ensures) (grind arith)))
 
 pub returns : goal.returns

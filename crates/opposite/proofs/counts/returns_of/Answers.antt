@@ -12,7 +12,7 @@ use Rattle.laws.proofs.Members.{length_counted, at_counted}
 use Rattle.opposite.proofs.Rows.{next_left, none_left}
 use Rattle.opposite.proofs.Adding.{count_begins, count_next, count_room, count_ends}
 use Rattle.opposite.proofs.counts.returns_of.Goals as goal
-use Rattle.opposite.proofs.counts.returns_of.Goals.{then-eq, else-eq}
+use Rattle.opposite.proofs.counts.returns_of.Goals.{then-is_same, else-is_same}
 
 -- number a of the numbers below k is a, and behind it the others are left
 next_number : (k a : ℕ) → a < k → drop a (counted 0 k) ≡ a ∷ drop (a + 1) (counted 0 k)
@@ -35,14 +35,14 @@ pub overflow_add-found : goal.overflow_add-found
 unfolding same_profile
 overflow_add-found c =
     let fewer = count_room _ _ c.loop-a.invariant _ (next_number _ _ c.loop-a-test.true)
-    (sym (same_made _ c.next_on.ensures c.eq.ensures) ∙ c.if-eq.true) in
+    (sym (same_made _ c.next_on.ensures c.is_same.ensures) ∙ c.if-is_same.true) in
     omega (arith, fewer, length_counted 0 c.args.asked.now.model.k)
 
 pub loop-a-preserved : goal.loop-a-preserved
 unfolding same_profile
 loop-a-preserved c =
-    count_next _ _ c.loop-a.invariant _ (next_number _ _ c.loop-a-test.true) (same_made _ c.next_on.ensures c.eq.ensures)
-    (elim c.if-eq.branch [ then-eq w ↦ inl (w.if-eq.true, w.found-is) | else-eq w ↦ inr (w.if-eq.false, w.found-is) ])
+    count_next _ _ c.loop-a.invariant _ (next_number _ _ c.loop-a-test.true) (same_made _ c.next_on.ensures c.is_same.ensures)
+    (elim c.if-is_same.branch [ then-is_same w ↦ inl (w.if-is_same.true, w.found-is) | else-is_same w ↦ inr (w.if-is_same.false, w.found-is) ])
 
 pub returns : goal.returns
 returns c = count_ends _ _ c.loop-a.invariant (no_number _ _ c.loop-a-test.false)

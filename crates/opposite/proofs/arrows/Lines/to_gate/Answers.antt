@@ -9,17 +9,17 @@ use Rattle.opposite.proofs.arrows.Lines.to_gate.Goals as goal
 pub put-requires-clause-room : goal.put-requires-clause-room
 unfolding same_profile
 put-requires-clause-room c =
-    let is : same_profile (profile c.args.y) (profile c.args.block.profile) ≡ true = sym c.eq.ensures ∙ c.if-eq.true in
+    let is : same_profile (profile c.args.y) (profile c.args.block.profile) ≡ true = sym c.is_same.ensures ∙ c.if-is_same.true in
     rw is at c.requires.room
 
-pub returns-then-eq : goal.returns-then-eq
+pub returns-then-is_same : goal.returns-then-is_same
 unfolding same_profile
-returns-then-eq c =
-    let is : same_profile (profile c.args.y) (profile c.args.block.profile) ≡ true = sym c.eq.ensures ∙ c.if-eq.true in
+returns-then-is_same c =
+    let is : same_profile (profile c.args.y) (profile c.args.block.profile) ≡ true = sym c.is_same.ensures ∙ c.if-is_same.true in
     rw is c.put.ensures
 
-pub returns-else-eq : goal.returns-else-eq
+pub returns-else-is_same : goal.returns-else-is_same
 unfolding same_profile
-returns-else-eq c =
-    let other : same_profile (profile c.args.y) (profile c.args.block.profile) ≡ false = sym c.eq.ensures ∙ c.if-eq.false in
+returns-else-is_same c =
+    let other : same_profile (profile c.args.y) (profile c.args.block.profile) ≡ false = sym c.is_same.ensures ∙ c.if-is_same.false in
     all_written (begin c.requires.room) (rw other)
