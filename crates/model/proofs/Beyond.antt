@@ -106,7 +106,7 @@ module _ (n x : ℕ) (rows : List ℕ) (are : rows ≡ to_le_bytes w64 x) (fits 
       rw (high, ← e)
       (some_taken (mask_beyond n) 0 rows n (omega arith) ∙ some_same n _ _ (λ p q. ap (mask_beyond n) (row p)))
 
-  -- the first is so where the quotient is not 0, and not where the number is small
+  -- by its quotient by 2^(8n): such a bit is there where that is not 0, and else only if one of the first n rows has one
   pub beyond_above : 0 < x / 2 ^ (8 * n) → true ≡ arrows_beyond 8 n x
   unfolding arrows_beyond
   beyond_above l =
